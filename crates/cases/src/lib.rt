@@ -1,0 +1,5 @@
+// Worked cases, as tests through the public calls. Expected values are worked out by hand or come from the Rust crate.
+#[cfg(test)]
+mod index_types;
+#[cfg(test)]
+mod word_rows;

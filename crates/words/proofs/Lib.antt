@@ -1,0 +1,4 @@
+pub mod Tallies
+pub mod Bitwise
+pub mod RowBits
+pub mod Updating
