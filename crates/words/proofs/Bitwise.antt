@@ -9,12 +9,12 @@ use native.Mathlib.Omega.{arith}
 use lib.Dec.{eqb, ltb}
 use lib.Arith.{lt-one}
 use lib.Bits.{bitAnd, bitOr, bitXor, and-step, or-step, and-lt, and-le-l, and-le-r, or-add-and, xor-add-and}
-use lib.Pow.{pow-pos, pow-mono, ones-sub-lt}
-use lib.Count.{ones, ones-step}
+use lib.Pow.{pow-pos, pow-mono, pow-lt, ones-sub-lt}
+use lib.Count.{ones, ones-step, trailingZeros}
 use Rattle.std.proofs.shelf.Bits.{le-div, div-below}
 use Rattle.std.proofs.shelf.Ways.{tells}
-use Rattle.std.proofs.shelf.Tests.{lt-ltb, le-ltb, eqb-true, eq-eqb, ne-eqb, cases-lt}
-use Rattle.words.specs.Bits.{one, bit, tally}
+use Rattle.std.proofs.shelf.Tests.{lt-ltb, le-ltb, eqb-true, eq-eqb, ne-eqb, cases-eq, cases-lt, and-left, and-right}
+use Rattle.words.specs.Bits.{one, bit, tally, Low}
 use Rattle.words.specs.Rows.{enters}
 use Rattle.words.proofs.Tallies.{tally-same}
 
@@ -134,3 +134,53 @@ bit-top w j low high =
     let l = le-div 1 w (2 ^ j) (pow-pos j) (omega arith) in
     let h = div-below w (2 ^ j) 2 (pow-pos j) (omega (arith, pow-suc 2 j)) in
     let e : w / 2 ^ j ≡ 1 = omega arith in rw e
+
+-- ---- a word's test against the mask of one bit, `w & (1 << m) != 0`
+
+pub and-pow : (w m : ℕ) → w < 2 ^ 64 → m < 64 → not (eqb (bitAnd w (2 ^ m)) 0) ≡ bit w m
+and-pow w m hw hm = elim (cases-eq (bitAnd w (2 ^ m)) 0) [
+    | inl e ↦ ap not (eq-eqb (bitAnd w (2 ^ m)) 0 e) ∙ sym (off (bit w m) (sym (at-m m) ∙ ap (λ x. bit x m) e ∙ bit-none m))
+    | inr ne ↦ ap not (ne-eqb (bitAnd w (2 ^ m)) 0 ne) ∙ sym (on (bit w m) refl ne)
+  ]
+  where
+    at-m : (k : ℕ) → bit (bitAnd w (2 ^ m)) k ≡ (bit w k && eqb k m)
+    at-m k = bit-and w (2 ^ m) k ∙ ap (λ x. bit w k && x) (bit-pow m k)
+
+    off : (x : Bool) → (x && eqb m m) ≡ false → x ≡ false
+    off true e = ap (λ y. y) (sym (eq-eqb m m refl)) ∙ e
+    off false e = refl
+
+    on : (x : Bool) → bit w m ≡ x → (bitAnd w (2 ^ m) ≡ 0 → ⊥) → x ≡ true
+    on true e ne = refl
+    on false e ne = absurd (ne (same-bits 64 (bitAnd w (2 ^ m)) 0 (and-lt 64 w (2 ^ m) hw (pow-lt hm)) (omega arith) (λ k l. at-m k ∙ none k ∙ sym (bit-none k))))
+      where
+        none : (k : ℕ) → (bit w k && eqb k m) ≡ false
+        none k = elim (cases-eq k m) [
+            | inl q ↦ and-left (bit w k) (eqb k m) (ap (bit w) q ∙ e)
+            | inr q ↦ and-right (bit w k) (eqb k m) (ne-eqb k m q)
+          ]
+
+-- ---- the lowest set bit
+
+even-or-odd : (w : ℕ) → (w % 2 ≡ 0) ⊎ (w % 2 ≡ 1)
+even-or-odd w = search arith
+
+trailing-odd : (k w : ℕ) → w % 2 ≡ 1 → trailingZeros (suc k) w ≡ 0
+unfolding trailingZeros
+trailing-odd k w e = rw e
+
+trailing-even : (k w : ℕ) → w % 2 ≡ 0 → trailingZeros (suc k) w ≡ suc (trailingZeros k (w / 2))
+unfolding trailingZeros
+trailing-even k w e = rw e
+
+pub trailing-low : (m w : ℕ) → 0 < w → w < 2 ^ m → (trailingZeros m w < m) × Low w (trailingZeros m w)
+trailing-low zero w p h = absurd (omega (arith, lt-one h))
+trailing-low (suc m) w p h = elim (even-or-odd w) [
+    | inr e ↦ rw (trailing-odd m w e) (omega arith, record { set = rw (bit-zero, e); below = λ j l. absurd (omega arith) })
+    | inl e ↦ (let r = trailing-low m (w / 2) (omega arith) (half-below w m h) in
+        rw (trailing-even m w e) (omega (arith, r .0), record { set = bit-suc w (trailingZeros m (w / 2)) ∙ r .1 .set; below = even-below w m e (r .1) }))
+  ]
+  where
+    even-below : (w m : ℕ) → w % 2 ≡ 0 → Low (w / 2) (trailingZeros m (w / 2)) → (j : ℕ) → j < suc (trailingZeros m (w / 2)) → bit w j ≡ false
+    even-below w m e r zero l = rw (bit-zero, e)
+    even-below w m e r (suc j) l = bit-suc w j ∙ r .below j (omega arith)

@@ -2,7 +2,7 @@
 use mathlib.Core.Bool.{Bool, true, false, not, cond, _&&_, _||_}
 use mathlib.Core.List.{List}
 use mathlib.Core.Logic.{inl, inr}
-use mathlib.Core.Path.{_≡_, refl, sym, ap, ap₂, _∙_}
+use mathlib.Core.Path.{_≡_, refl, sym, ap, ap₂, subst, _∙_}
 use Prim.Native.Nat.{ℕ, zero, suc, min, _+_, _-_, _*_, _/_, _%_, _^_, _≤_, _<_}
 use native.Mathlib.Nat.{zero-add}
 use native.Mathlib.Omega.{arith}
@@ -58,6 +58,16 @@ set-fit ws j w within small k h = elim (cases-eq k j) [
   | inr ne ↦ rw (getD-set-other ws j k w 0 ne) h
 ]
 
+-- a word whose bits stay is the same word
+pub set-rest : (f : ℕ → Bool) (ws : List ℕ) (j w : ℕ) → j < length ws → w < 2 ^ 64 → getD ws j 0 < 2 ^ 64 → ((i : ℕ) → holds (set ws j w) i ≡ f i)
+    → (k : ℕ) → ((b : ℕ) → b < 64 → f (64 * k + b) ≡ holds ws (64 * k + b)) → getD (set ws j w) k 0 ≡ getD ws k 0
+set-rest f ws j w within small read bits k stays = elim (cases-eq k j) [
+      inl e ↦ (let stays-here : (b : ℕ) → b < 64 → f (64 * j + b) ≡ holds ws (64 * j + b) = subst (λ x. (b : ℕ) → b < 64 → f (64 * x + b) ≡ holds ws (64 * x + b)) e stays in
+        let same : w ≡ getD ws j 0 = same-bits 64 w (getD ws j 0) small read (λ b l.
+            sym (holds-word (set ws j w) j b l ∙ ap (λ x. bit x b) (getD-set-same ws j w 0 within)) ∙ bits (64 * j + b) ∙ stays-here b l ∙ holds-word ws j b l) in
+        ap (λ x. getD (set ws j w) x 0) e ∙ getD-set-same ws j w 0 within ∙ same ∙ ap (λ x. getD ws x 0) (sym e))
+    | inr ne ↦ getD-set-other ws j k w 0 ne ]
+
 -- ---- counting the set bits, word by word
 
 pub tally-word : (ws : List ℕ) (j : ℕ) → getD ws j 0 < 2 ^ 64 → tally (holds ws) 0 (64 * (j + 1)) ≡ tally (holds ws) 0 (64 * j) + ones (getD ws j 0)
@@ -81,8 +91,8 @@ module _ (ws : List ℕ) (p j w v : ℕ) (b : Bool) (within : j < length ws) (wo
         holds-set-other ws j v i ne ∙ ap (λ x. cond x b (holds ws i)) (sym f))
   ]
 
-  pub put-row : Rewritten (put ws p b) ws (set ws j v)
-  put-row = record { long = length-set ws j v; bits = put-bits; fit = set-fit ws j v within small }
+  pub put-row : w < 2 ^ 64 → Rewritten (put ws p b) ws (set ws j v)
+  put-row fits = record { long = length-set ws j v; bits = put-bits; fit = set-fit ws j v within small; rest = set-rest (put ws p b) ws j v within small (subst (λ x. x < 2 ^ 64) read fits) put-bits }
 
   pub read-bit : bit w (p % 64) ≡ holds ws p
   unfolding holds
@@ -170,5 +180,5 @@ module _ (ws : List ℕ) (j r w v : ℕ) (last : j + 1 ≡ length ws) (some : 0 
     ]
   ]
 
-  pub trim-row : Rewritten (trimmed r ws) ws (set ws j v)
-  trim-row = record { long = length-set ws j v; bits = trim-bits; fit = set-fit ws j v (omega arith) small }
+  pub trim-row : w < 2 ^ 64 → Rewritten (trimmed r ws) ws (set ws j v)
+  trim-row fits = record { long = length-set ws j v; bits = trim-bits; fit = set-fit ws j v (omega arith) small; rest = set-rest (trimmed r ws) ws j v (omega arith) small (subst (λ x. x < 2 ^ 64) read fits) trim-bits }

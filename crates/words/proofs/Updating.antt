@@ -2,7 +2,7 @@
 use mathlib.Core.Bool.{Bool, true, false, cond, _||_}
 use mathlib.Core.List.{List}
 use mathlib.Core.Logic.{inl, inr}
-use mathlib.Core.Path.{_≡_, refl, sym, ap, ap₂, _∙_}
+use mathlib.Core.Path.{_≡_, refl, sym, ap, ap₂, subst, _∙_}
 use Prim.Native.Nat.{ℕ, zero, suc, min, _+_, _-_, _*_, _/_, _%_, _^_, _≤_, _<_}
 use native.Mathlib.Nat.{zero-add}
 use native.Mathlib.Omega.{arith}
@@ -105,13 +105,14 @@ module _ (t : Table) (us vs : List ℕ) where
     pub long : length cur ≡ length us
     pub bits : (i : ℕ) → i < 64 * j → holds cur i ≡ look t (holds us i) (holds vs i)
     pub rest : (k : ℕ) → j ≤ k → getD cur k 0 ≡ getD us k 0
+    pub same : (k : ℕ) → k < j → ((b : ℕ) → b < 64 → look t (holds us (64 * k + b)) (holds vs (64 * k + b)) ≡ holds us (64 * k + b)) → getD cur k 0 ≡ getD us k 0
     pub fit : (k : ℕ) → getD us k 0 < 2 ^ 64 → getD cur k 0 < 2 ^ 64
     pub came : e ≡ capped (tally in-at 0 (64 * j))
     pub went : l ≡ capped (tally out-at 0 (64 * j))
 
   pub partly-none : Partly us 0 0 0
   unfolding tally
-  partly-none = record { long = refl; bits = λ i h. absurd (omega arith); rest = λ k h. refl; fit = λ k h. h; came = refl; went = refl }
+  partly-none = record { long = refl; bits = λ i h. absurd (omega arith); rest = λ k h. refl; same = λ k h q. refl; fit = λ k h. h; came = refl; went = refl }
 
   -- one word more of a count
   count-more : (p r : ℕ → Bool) (j a c : ℕ) → ((k : ℕ) → k < 64 → p (64 * j + k) ≡ r k) → a ≡ capped (tally p 0 (64 * j)) → c ≡ tally r 0 64
@@ -123,7 +124,7 @@ module _ (t : Table) (us vs : List ℕ) where
       omega (arith, all, s, ea, ec, eb)
 
   module _ (cur : List ℕ) (j e l old operand new c w : ℕ) (d : Partly cur j e l) (within : j < length cur) (own : old ≡ getD cur j 0) (other : operand ≡ getD vs j 0)
-      (hn : new < 2 ^ 64) (applied : Applied t old operand new)
+      (ho : old < 2 ^ 64) (hn : new < 2 ^ 64) (applied : Applied t old operand new)
       (ec : c ≡ tally (λ k. enters (bit old k) (bit new k)) 0 64) (ew : w ≡ tally (λ k. enters (bit new k) (bit old k)) 0 64)
       (e′ l′ : ℕ) (ee : e′ ≡ capped (e + c)) (el : l′ ≡ capped (l + w)) where
     old-bit : (k : ℕ) → k < 64 → holds us (64 * j + k) ≡ bit old k
@@ -141,6 +142,12 @@ module _ (t : Table) (us vs : List ℕ) where
         | inr ne ↦ holds-set-other cur j new i ne ∙ d .bits i (omega arith)
       ];
       rest = λ k h. getD-set-other cur j k new 0 (λ q. omega arith) ∙ d .rest k (omega arith);
+      same = λ k h stays. elim (cases-eq k j) [
+        | inl q ↦ (let here = subst (λ x. (b : ℕ) → b < 64 → look t (holds us (64 * x + b)) (holds vs (64 * x + b)) ≡ holds us (64 * x + b)) q stays in
+            let is : new ≡ old = same-bits 64 new old hn ho (λ b l. sym (new-bit b l) ∙ here b l ∙ old-bit b l) in
+            ap (λ x. getD (set cur j new) x 0) q ∙ getD-set-same cur j new 0 within ∙ is ∙ own ∙ d .rest j (omega arith) ∙ ap (λ x. getD us x 0) (sym q))
+        | inr ne ↦ getD-set-other cur j k new 0 ne ∙ d .same k (omega arith) stays
+      ];
       fit = λ k h. set-fit cur j new within hn k (d .fit k h);
       came = count-more in-at (λ k. enters (bit old k) (bit new k)) j e c (λ k h. ap₂ enters (old-bit k h) (new-bit k h)) (d .came) ec e′ ee;
       went = count-more out-at (λ k. enters (bit new k) (bit old k)) j l w (λ k h. ap₂ enters (new-bit k h) (old-bit k h)) (d .went) ew l′ el;
@@ -166,6 +173,10 @@ module _ (t : Table) (us vs : List ℕ) where
         | inr s ↦ unread i s ∙ sym (same i s h)
       ];
       rest = λ k h. d .rest k (omega arith);
+      same = λ k h stays. elim (cases-lt k j) [
+        | inl s ↦ d .same k s stays
+        | inr s ↦ d .rest k s
+      ];
       fit = d .fit;
       came = d .came ∙ ap capped (sym (count-same in-at (λ i a h. enters-same (holds us i) _ (same i a h) .0)));
       went = d .went ∙ ap capped (sym (count-same out-at (λ i a h. enters-same (holds us i) _ (same i a h) .1)));
@@ -176,6 +187,10 @@ module _ (t : Table) (us vs : List ℕ) where
     pub partly-all : Rewritten (combined t us vs) us cur
     unfolding combined holds
     partly-all = record {
+      rest = λ k stays. elim (cases-lt k (min (length us) (length vs))) [
+        | inl s ↦ d .same k s (λ b l. sym (ap (λ x. cond x (look t (holds us (64 * k + b)) (holds vs (64 * k + b))) (holds us (64 * k + b))) (lt-ltb (64 * k + b) (shared us vs) (omega arith))) ∙ stays b l)
+        | inr s ↦ d .rest k s
+      ];
       long = d .long;
       bits = λ i. elim (cases-lt i (shared us vs)) [
         | inl s ↦ d .bits i s ∙ ap (λ x. cond x (look t (holds us i) (holds vs i)) (holds us i)) (sym (lt-ltb i (shared us vs) s))

@@ -5,6 +5,7 @@
 --   tally       how many of n indices from a on pass a test
 --   set-bits    how many bits of a row are set
 --   Highest     the highest set bit of a word, or nothing where no bit is set
+--   Low         the lowest set bit of a word
 use mathlib.Core.Bool.{Bool, true, false}
 use mathlib.Core.List.{List}
 use mathlib.Core.Path.{_≡_}
@@ -37,3 +38,8 @@ set-bits ws = tally (holds ws) 0 (64 * length ws)
 abbrev pub Highest : ℕ → Option ℕ → Type 0
 Highest w None = (k : ℕ) → bit w k ≡ false
 Highest w (Some k) = (bit w k ≡ true) × ((j : ℕ) → k < j → bit w j ≡ false)
+
+-- bit t is the lowest that is set
+pub record Low (w t : ℕ) : Type 0 where
+  pub set : bit w t ≡ true
+  pub below : (j : ℕ) → j < t → bit w j ≡ false

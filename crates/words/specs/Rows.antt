@@ -1,5 +1,5 @@
 -- What the word functions leave in a row of words and what they answer.
---   Rewritten   a row became another whose bit i is f i; a word that fitted 64 bits still does
+--   Rewritten   a row became another whose bit i is f i; a word that fitted 64 bits still does, and one whose bits stay is the same
 --   put         a row's bits once the one at an index is written
 --   Put         what a write of one bit answers and leaves, past the row's end too
 --   trimmed     a row's bits without those of its last word from bit r on, where r is not 0
@@ -27,6 +27,7 @@ pub record Rewritten (f : ℕ → Bool) (old new : List ℕ) : Type 0 where
   pub long : length new ≡ length old
   pub bits : (i : ℕ) → holds new i ≡ f i
   pub fit : (k : ℕ) → getD old k 0 < 2 ^ 64 → getD new k 0 < 2 ^ 64
+  pub rest : (k : ℕ) → ((b : ℕ) → b < 64 → f (64 * k + b) ≡ holds old (64 * k + b)) → getD new k 0 ≡ getD old k 0
 
 unfoldable pub put : List ℕ → ℕ → Bool → ℕ → Bool
 put ws p b i = cond (eqb i p) b (holds ws i)

@@ -1,7 +1,7 @@
 -- Word operators by their tables.
 --   look           a table's bit for (own bit, operand's bit)
 --   Applied        every bit of a result is the table's for the same bit of both words, and depends on nothing else
---   or-table, and-table, second-table
+--   or-table, and-table, second-table, subtract-table, union-not-table   the tables that masks are combined by
 --   complemented   the table of a layer that complements the operand's bit and hands both on
 use mathlib.Core.Bool.{Bool, true, false}
 use mathlib.Core.Path.{_≡_}
@@ -29,3 +29,9 @@ second-table = record { neither = false; «operand_only» = true; «own_only» =
 
 abbrev pub complemented : Table → Table
 complemented t = record { neither = t .«operand_only»; «operand_only» = t .neither; «own_only» = t .both; both = t .«own_only» }
+
+abbrev pub subtract-table : Table
+subtract-table = record { neither = false; «operand_only» = false; «own_only» = true; both = false }
+
+abbrev pub union-not-table : Table
+union-not-table = record { neither = true; «operand_only» = false; «own_only» = true; both = true }

@@ -16,5 +16,5 @@ returns-else-num-bits-in-final-word-gt0 c =
         | inl e ↦ (let past = holds-past ws i (omega (arith, e .1)) in past ∙ sym (trimmed-past r ws i past))
         | inr e ↦ sym (trimmed-none r ws i (omega (arith, e)))
       ];
-      fit = λ k h. h;
+      fit = λ k h. h; rest = λ k h. refl;
     }

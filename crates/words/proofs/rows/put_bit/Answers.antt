@@ -48,7 +48,7 @@ returns c =
     let word = c .word-index-and-mask-word-index .ensures .index in
     let within : at c < length ws = omega (arith, c .pre) in
     record {
-      row = put-row ws p (at c) (old c) v b within word refl (small c) (turn c);
+      row = put-row ws p (at c) (old c) v b within word refl (small c) (turn c) (omega arith);
       value = turned (old c) v (m c) b (omega arith) (small c) (omega arith) (turn c)
           ∙ ap (λ x. cond b (not x) x) (read-bit ws p (at c) (old c) v b within word refl (small c) (turn c));
     }

@@ -22,3 +22,4 @@ returns c =
     trim-row ws j r w (bitAnd w mask) (omega (arith, c .pre .words)) (c .pre .count .0) (c .pre .count .1) refl
     (omega (arith, and-le-l w mask))
     (λ k. bit-and w mask k ∙ ap (λ x. bit w k && x) (ap (λ x. bit (x - 1) k) shift ∙ bit-ones r k))
+    (omega arith)

@@ -36,7 +36,7 @@ loop-k-again g c us d =
     let ho : old < 2 ^ 64 = omega arith in
     partly-more t us (c .args .rhs .now) cur j (c .loop-k .entered) (c .loop-k .left) old (getD (c .args .rhs .now) j 0) new
     (ones (bitAnd new (2 ^ 64 - 1 - old))) (ones (bitAnd old (2 ^ 64 - 1 - new)))
-    (c .loop-k .inv us d) (omega arith) refl refl (omega arith) (c .apply-new .ensures .bits)
+    (c .loop-k .inv us d) (omega arith) refl refl ho (omega arith) (c .apply-new .ensures .bits)
     (ones-enters new old (omega arith) ho) (ones-enters old new ho (omega arith))
     (c .saturating-add-entered .result) (c .saturating-add-left .result) (c .saturating-add-entered .ensures) (c .saturating-add-left .ensures)
 

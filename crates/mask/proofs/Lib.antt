@@ -1,0 +1,6 @@
+pub mod Decides
+pub mod Balance
+pub mod Operands
+pub mod Running
+pub mod Listing
+pub mod Nexts

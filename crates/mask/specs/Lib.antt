@@ -1,0 +1,4 @@
+pub mod Machine
+pub mod Kinds
+pub mod Trials
+pub mod Successions
