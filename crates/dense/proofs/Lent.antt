@@ -39,13 +39,12 @@ module _ {Z : Type 0} (v : Vec ℕ Z) (own cur : List ℕ) (e : own ≡ vec-item
     pub lent-fit : (n : ℕ) → (Fit n own → Fit n cur) → Fit n (vec-items v) → Fit n (vec-items (refilled v cur))
     lent-fit n h f = subst (Fit n) (sym (back l)) (h (subst (Fit n) (sym e) f))
 
-
 -- ---- what lies past a set's own words
 
 pub same-behind : (w : ℕ) (us vs : List ℕ) → length vs ≡ length us → ((k : ℕ) → w ≤ k → getD vs k 0 ≡ getD us k 0) → drop w vs ≡ drop w us
 same-behind w us vs long same =
     ext-getD 0 (drop w vs) (drop w us) (length-drop w vs ∙ ap (λ x. x - w) long ∙ sym (length-drop w us))
-      (λ k l. getD-drop w vs k 0 ∙ same (w + k) (omega arith) ∙ sym (getD-drop w us k 0))
+    (λ k l. getD-drop w vs k 0 ∙ same (w + k) (omega arith) ∙ sym (getD-drop w us k 0))
 
 -- a row that was lent, with one bit written
 module _ {Z : Type 0} (v : Vec ℕ Z) (own cur : List ℕ) (e : own ≡ vec-items v) (n i : ℕ) (b : Bool) (inside : i < n) (r : Rewritten (put own i b) own cur) where
@@ -74,21 +73,21 @@ row-count n ws small enough clean =
     let w = words-for n in
     let long : length (take w ws) ≡ w = length-take-le w ws enough in
     let all : tally (holds (take w ws)) 0 (64 * length (take w ws)) ≡ tally (holds ws) 0 n =
-        ap (λ x. tally (holds (take w ws)) 0 (64 * x)) long
-        ∙ tally-same (holds (take w ws)) (holds ws) 0 0 (64 * w) (λ i h. rw zero-add (holds-take w i ws h))
-        ∙ tally-trim (holds ws) n (64 * w) (omega arith) clean in
+    ap (λ x. tally (holds (take w ws)) 0 (64 * x)) long
+    ∙ tally-same (holds (take w ws)) (holds ws) 0 0 (64 * w) (λ i h. rw zero-add (holds-take w i ws h))
+    ∙ tally-trim (holds ws) n (64 * w) (omega arith) clean in
     omega (arith, all, tally-le (holds ws) 0 n, count-tab (holds ws) n)
 
 next-of : (p : ℕ → Bool) (n m from : ℕ) (r : Option ℕ) → n ≤ m → ((i : ℕ) → n ≤ i → i < m → p i ≡ false) → Lowest p from m r → r ≡ next-member (tab p n) from
 next-of p n m from None l clean h = sym (next-none (tab p n) from (λ i a. elim (cases-lt i n) [
-      | inl s ↦ getD-tab p n i false s ∙ h i a (omega arith)
-      | inr s ↦ getD-tab-past p n i s
-    ]))
+  | inl s ↦ getD-tab p n i false s ∙ h i a (omega arith)
+  | inr s ↦ getD-tab-past p n i s
+]))
 next-of p n m from (Some i) l clean h =
     let inside : i < n = elim (cases-lt i n) [
-        | inl s ↦ s
-        | inr s ↦ absurd (true≢false (sym (h .2) ∙ clean i s (h .1)))
-      ] in
+      | inl s ↦ s
+      | inr s ↦ absurd (true≢false (sym (h .2) ∙ clean i s (h .1)))
+    ] in
     sym (next-some (tab p n) from i (h .0) (getD-tab p n i false inside ∙ h .2) (λ j a b. getD-tab p n j false (omega arith) ∙ h .3 j a b))
 
 pub row-next : (n : ℕ) (ws : List ℕ) (from : ℕ) (r : Option ℕ) → words-for n ≤ length ws → Clean n ws → Lowest (holds (take (words-for n) ws)) from (64 * length (take (words-for n) ws)) r → r ≡ next-member (tab (holds ws) n) from

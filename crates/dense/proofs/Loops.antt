@@ -42,8 +42,8 @@ more : (p q r : ℕ → Bool) (j a c : ℕ) → ((i : ℕ) → i < 64 * j → p 
 more p q r j a c below here ea ec =
     let e : 64 * (j + 1) ≡ 64 * j + 64 = omega arith in
     ap₂ (λ x y. x + y)
-      (ea ∙ sym (tally-same p q 0 0 (64 * j) (λ i h. rw zero-add (below i h))))
-      (ec ∙ sym (tally-same p r (0 + 64 * j) 0 64 (λ k l. rw (zero-add, zero-add) (here k l))))
+    (ea ∙ sym (tally-same p q 0 0 (64 * j) (λ i h. rw zero-add (below i h))))
+    (ec ∙ sym (tally-same p r (0 + 64 * j) 0 64 (λ k l. rw (zero-add, zero-add) (here k l))))
     ∙ sym (tally-add p 0 (64 * j) 64) ∙ ap (tally p 0) (sym e)
 
 module _ (f : ℕ → Bool) (own cur : List ℕ) (j came went old new c w : ℕ) (d : Done f own cur j came went)
@@ -65,19 +65,22 @@ module _ (f : ℕ → Bool) (own cur : List ℕ) (j came went old new c w : ℕ)
   pub done-more : Done f own (set cur j new) (j + 1) (came + c) (went + w)
   unfolding gain
   done-more = record {
-      long = length-set cur j new ∙ d .long
-    ; bits = λ i h. elim (cases-eq (i / 64) j) [
-          inl e ↦ (let k : i % 64 < 64 = omega arith in let s : 64 * j + i % 64 ≡ i = omega arith in
-            holds-set-same cur j new i within e ∙ target (i % 64) k ∙ ap f s)
-        | inr ne ↦ (let l : i < 64 * j = omega arith in below i l ∙ d .bits i l) ]
-    ; rest = λ k h. getD-set-other cur j k new 0 (λ e. omega arith) ∙ d .rest k (omega arith)
-    ; fit = λ k h. elim (cases-eq k j) [
-          inl e ↦ rw (e, getD-set-same cur j new 0 within) small
-        | inr ne ↦ rw (getD-set-other cur j k new 0 ne) (d .fit k (omega arith)) ]
-    ; came-is = more (λ i. enters (holds own i) (holds (set cur j new) i)) (λ i. enters (holds own i) (holds cur i)) (λ k. enters (bit old k) (bit new k)) j came c
-        (λ i h. ap (enters (holds own i)) (below i h)) (λ k h. ap₂ enters (old-bit k h) (here k h)) (d .came-is) ec
-    ; went-is = more (λ i. enters (holds (set cur j new) i) (holds own i)) (λ i. enters (holds cur i) (holds own i)) (λ k. enters (bit new k) (bit old k)) j went w
-        (λ i h. ap (λ x. enters x (holds own i)) (below i h)) (λ k h. ap₂ enters (here k h) (old-bit k h)) (d .went-is) ew }
+    long = length-set cur j new ∙ d .long;
+    bits = λ i h. elim (cases-eq (i / 64) j) [
+      | inl e ↦ (let k : i % 64 < 64 = omega arith in let s : 64 * j + i % 64 ≡ i = omega arith in
+          holds-set-same cur j new i within e ∙ target (i % 64) k ∙ ap f s)
+      | inr ne ↦ (let l : i < 64 * j = omega arith in below i l ∙ d .bits i l)
+    ];
+    rest = λ k h. getD-set-other cur j k new 0 (λ e. omega arith) ∙ d .rest k (omega arith);
+    fit = λ k h. elim (cases-eq k j) [
+      | inl e ↦ rw (e, getD-set-same cur j new 0 within) small
+      | inr ne ↦ rw (getD-set-other cur j k new 0 ne) (d .fit k (omega arith))
+    ];
+    came-is = more (λ i. enters (holds own i) (holds (set cur j new) i)) (λ i. enters (holds own i) (holds cur i)) (λ k. enters (bit old k) (bit new k)) j came c
+        (λ i h. ap (enters (holds own i)) (below i h)) (λ k h. ap₂ enters (old-bit k h) (here k h)) (d .came-is) ec;
+    went-is = more (λ i. enters (holds (set cur j new) i) (holds own i)) (λ i. enters (holds cur i) (holds own i)) (λ k. enters (bit new k) (bit old k)) j went w
+        (λ i h. ap (λ x. enters x (holds own i)) (below i h)) (λ k h. ap₂ enters (here k h) (old-bit k h)) (d .went-is) ew;
+  }
 
 -- ---- its counts are at most n, and its end
 
@@ -98,13 +101,14 @@ module _ (f : ℕ → Bool) (n : ℕ) (own cur : List ℕ) (j came went : ℕ) (
   pub done-all : (h : ℕ → Bool) → ((i : ℕ) → i < n → f i ≡ h i) → j ≡ words-for n → Becomes h n own cur (came, went)
   unfolding gain
   done-all h same e = record {
-      long = d .long
-    ; bits = λ i l. d .bits i (omega arith) ∙ same i l
-    ; clean = λ i l k. d .bits i (omega arith) ∙ past i l
-    ; fit = λ k l. d .fit k (omega arith)
-    ; spare = λ k l. d .rest k (omega arith)
-    ; came = d .came-is ∙ tally-trim (λ i. enters (holds own i) (holds cur i)) n (64 * j) (omega arith) came-none
-    ; went = d .went-is ∙ tally-trim (λ i. enters (holds cur i) (holds own i)) n (64 * j) (omega arith) (went-none (omega arith)) }
+    long = d .long;
+    bits = λ i l. d .bits i (omega arith) ∙ same i l;
+    clean = λ i l k. d .bits i (omega arith) ∙ past i l;
+    fit = λ k l. d .fit k (omega arith);
+    spare = λ k l. d .rest k (omega arith);
+    came = d .came-is ∙ tally-trim (λ i. enters (holds own i) (holds cur i)) n (64 * j) (omega arith) came-none;
+    went = d .went-is ∙ tally-trim (λ i. enters (holds cur i) (holds own i)) n (64 * j) (omega arith) (went-none (omega arith));
+  }
 
 -- ---- bits below n alone
 

@@ -95,19 +95,20 @@ same-row : (n : ℕ) (us vs : List ℕ) → words-for n ≤ length us → words-
 same-row n us vs la lb fa fb h =
     let ea = length-take-le (words-for n) us la in
     ext-getD 0 (take (words-for n) us) (take (words-for n) vs) (ea ∙ sym (length-take-le (words-for n) vs lb)) (λ k l.
-      let s : k < words-for n = omega arith in
-      getD-take (words-for n) us k 0 s
-      ∙ same-bits 64 (getD us k 0) (getD vs k 0) (fa k s) (fb k s) (λ j t. sym (holds-word us k j t) ∙ h (64 * k + j) (omega arith) ∙ holds-word vs k j t)
-      ∙ sym (getD-take (words-for n) vs k 0 s))
+    let s : k < words-for n = omega arith in
+    getD-take (words-for n) us k 0 s
+    ∙ same-bits 64 (getD us k 0) (getD vs k 0) (fa k s) (fb k s) (λ j t. sym (holds-word us k j t) ∙ h (64 * k + j) (omega arith) ∙ holds-word vs k j t)
+    ∙ sym (getD-take (words-for n) vs k 0 s))
 
 pub row-shown : (n m : ℕ) (us vs : List ℕ) → words-for n ≤ length us → words-for m ≤ length vs → Fit n us → Fit m vs → Clean n us → Clean m vs
     → n ≡ m → tab (holds us) n ≡ tab (holds vs) m → (n ∷ take (words-for n) us) ≡ (m ∷ take (words-for m) vs)
 row-shown n m us vs la lb fa fb ca cb p e =
     let w : words-for n ≡ words-for m = ap words-for p in
     let r : take (words-for n) us ≡ take (words-for n) vs =
-        same-row n us vs la (omega arith) fa (λ k h. fb k (omega arith)) (λ i h. elim (cases-lt i n) [
-            inl l ↦ sym (getD-tab (holds us) n i false l) ∙ ap (λ xs. getD xs i false) e ∙ getD-tab (holds vs) m i false (omega arith)
-          | inr l ↦ ca i l h ∙ sym (cb i (omega arith) (omega arith)) ]) in
+    same-row n us vs la (omega arith) fa (λ k h. fb k (omega arith)) (λ i h. elim (cases-lt i n) [
+      | inl l ↦ sym (getD-tab (holds us) n i false l) ∙ ap (λ xs. getD xs i false) e ∙ getD-tab (holds vs) m i false (omega arith)
+      | inr l ↦ ca i l h ∙ sym (cb i (omega arith) (omega arith))
+    ]) in
     ap₂ (λ x y. x ∷ y) p (r ∙ ap (λ x. take x vs) w)
 
 -- the row after a write of bit i
@@ -122,10 +123,11 @@ put-at us vs m n b e put j = put j ∙ ap (λ x. cond (eqb j x) b (holds us j)) 
 pub put-members : (n i : ℕ) (us vs : List ℕ) (b : Bool) → Put us vs i b → tab (holds vs) n ≡ set (tab (holds us) n) i b
 put-members n i us vs b h =
     sym (tab-is (holds vs) (set (tab (holds us) n) i b) n (length-set (tab (holds us) n) i b ∙ length-tab (holds us) n) (λ j l.
-      elim (cases-eq j i) [
-        inl e ↦ (let k : i < length (tab (holds us) n) = omega (arith, length-tab (holds us) n) in
+    elim (cases-eq j i) [
+      | inl e ↦ (let k : i < length (tab (holds us) n) = omega (arith, length-tab (holds us) n) in
           ap (λ x. getD (set (tab (holds us) n) i b) x false) e ∙ getD-set-same (tab (holds us) n) i b false k ∙ sym (h j ∙ ap (λ x. cond x b (holds us j)) (eq-eqb j i e)))
-      | inr ne ↦ getD-set-other (tab (holds us) n) i j b false ne ∙ getD-tab (holds us) n j false l ∙ sym (h j ∙ ap (λ x. cond x b (holds us j)) (ne-eqb j i ne)) ]))
+      | inr ne ↦ getD-set-other (tab (holds us) n) i j b false ne ∙ getD-tab (holds us) n j false l ∙ sym (h j ∙ ap (λ x. cond x b (holds us j)) (ne-eqb j i ne))
+    ]))
 
 pub put-clean : (n i : ℕ) (us vs : List ℕ) (b : Bool) → i < n → Put us vs i b → Clean n us → Clean n vs
 put-clean n i us vs b h put clean j l k = put j ∙ ap (λ x. cond x b (holds us j)) (ne-eqb j i (λ e. omega arith)) ∙ clean j l k

@@ -50,13 +50,17 @@ module _ (ws : List ℕ) (from j m v : ℕ) (at : from ≡ 64 * j + m) (few : m 
 module _ (ws : List ℕ) (from k : ℕ) (below : (i : ℕ) → from ≤ i → i < 64 * k → holds ws i ≡ false) where
   pub word-none : getD ws k 0 ≡ 0 → (i : ℕ) → from ≤ i → i < 64 * (k + 1) → holds ws i ≡ false
   word-none e i a b = elim (cases-lt i (64 * k)) [
-      | inl l ↦ below i a l
-      | inr l ↦ at-word ws k i l (omega arith) ∙ ap (λ x. bit x (i - 64 * k)) e ∙ bit-none (i - 64 * k)
-    ]
+    | inl l ↦ below i a l
+    | inr l ↦ at-word ws k i l (omega arith) ∙ ap (λ x. bit x (i - 64 * k)) e ∙ bit-none (i - 64 * k)
+  ]
 
   pub word-some : (t : ℕ) → t < 64 → Low (getD ws k 0) t → k < length ws → from ≤ 64 * k → (from ≤ 64 * k + t) × (64 * k + t < 64 * length ws) × (holds ws (64 * k + t) ≡ true) × ((i : ℕ) → from ≤ i → i < 64 * k + t → holds ws i ≡ false)
-  word-some t h low within past =
-      (omega arith, omega arith, holds-word ws k t h ∙ low .set, λ i a b. elim (cases-lt i (64 * k)) [
-        | inl l ↦ below i a l
-        | inr l ↦ at-word ws k i l (omega arith) ∙ low .below (i - 64 * k) (omega arith)
-      ])
+  word-some t h low within past = (
+    omega arith,
+    omega arith,
+    holds-word ws k t h ∙ low .set,
+    λ i a b. elim (cases-lt i (64 * k)) [
+      | inl l ↦ below i a l
+      | inr l ↦ at-word ws k i l (omega arith) ∙ low .below (i - 64 * k) (omega arith)
+    ],
+  )

@@ -35,7 +35,11 @@ impl DenseBitSet {
     }
 
     // Puts every index through the operator with the other set.
-    pub(crate) fn combine_with<O: Operator>(&mut self, op: &O, other: &DenseBitSet) -> Result<(usize, usize), Refusal>
+    pub(crate) fn combine_with<O: Operator>(
+        &mut self,
+        op: &O,
+        other: &DenseBitSet,
+    ) -> Result<(usize, usize), Refusal>
         ensures machine { λ r. ⌜ Answered domain-of rule-of members-of (now (self .entry)) (combine (table (now (op .entry))) (domain-of (now (other .entry))) (members-of (now (other .entry)))) r (now (self .exit)) ⌝ }
         ensures kept { λ _. ⌜ Kept domain-of rule-of spare-of (now (self .entry)) (now (self .exit)) ⌝ }
     {

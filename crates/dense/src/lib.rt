@@ -5,6 +5,7 @@ mod makes;
 pub mod mask_calls;
 mod reads;
 mod rows;
+pub mod set_calls;
 
 pub use bit_set::DenseBitSet;
 pub use mask_calls::DenseMask;

@@ -13,12 +13,19 @@ use words::num_words;
 
 impl DenseBitSet {
     // A set with every index of its domain or none, in the first words of the memory.
-    pub(crate) fn uniform(domain_size: usize, memory: Vec<Word>, full: bool) -> Result<DenseBitSet, Refused<Vec<Word>>>
+    pub(crate) fn uniform(
+        domain_size: usize,
+        memory: Vec<Word>,
+        full: bool,
+    ) -> Result<DenseBitSet, Refused<Vec<Word>>>
         ensures { λ r. ⌜ Made domain-of rule-of spare-of room any-rule behind members-of full «domain_size» memory r ⌝ }
     {
         let n = num_words(domain_size);
         if memory.len() < n {
-            return Err(Refused { refusal: Refusal::Memory, memory });
+            return Err(Refused {
+                refusal: Refusal::Memory,
+                memory,
+            });
         }
         let mut words = memory;
         clear_words(&mut words, n);
@@ -30,7 +37,10 @@ impl DenseBitSet {
     pub(crate) fn into_words(self) -> Vec<Word>
         ensures { λ r. ⌜ Ended domain-of rule-of spare-of room any-rule behind self r ⌝ }
     {
-        let DenseBitSet { domain_size: _, words } = self;
+        let DenseBitSet {
+            domain_size: _,
+            words,
+        } = self;
         words
     }
 }

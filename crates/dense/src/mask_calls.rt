@@ -12,19 +12,29 @@ pub impl Mask for DenseBitSet as DenseMask {
     type Memory = Vec<Word>;
 
     ghost domain = { domain-of };
+
     ghost members = { members-of };
+
     ghost rule = { rule-of };
+
     ghost picture = { picture-of };
+
     ghost spare = { spare-of };
+
     ghost suffices = { room };
+
     ghost given = { any-rule };
+
     ghost past = { behind };
 
     fn new_empty(domain_size: usize, memory: Vec<Word>) -> Result<DenseBitSet, Refused<Vec<Word>>> {
         DenseBitSet::uniform(domain_size, memory, false)
     }
 
-    fn new_filled(domain_size: usize, memory: Vec<Word>) -> Result<DenseBitSet, Refused<Vec<Word>>> {
+    fn new_filled(
+        domain_size: usize,
+        memory: Vec<Word>,
+    ) -> Result<DenseBitSet, Refused<Vec<Word>>> {
         DenseBitSet::uniform(domain_size, memory, true)
     }
 

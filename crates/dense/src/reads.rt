@@ -1,7 +1,8 @@
 // What a set is asked.
-ghost use mathlib.Core.Bool.{Bool};
+ghost use lib.ListN.{getD};
+ghost use mathlib.Core.Bool.{Bool, false};
 ghost use mathlib.Core.Path.{_≡_};
-ghost use Rattle.dense.specs.Sets.{domain-of, members-of, picture-of};
+ghost use Rattle.dense.specs.Sets.{domain-of, members-of, picture-of, Superset};
 ghost use Rattle.mask.specs.Kinds.{Tells};
 ghost use Rattle.mask.specs.Machine.{contained, count, next-member};
 use crate::bit_set::DenseBitSet;
@@ -10,8 +11,11 @@ use crate::rows::next_set;
 use crate::rows::same_words;
 use index::Refusal;
 use index::UsizeIdx;
+use words::Or;
+use words::OrOperator;
 use words::count_ones;
 use words::num_words;
+use words::would_modify_words;
 
 impl DenseBitSet {
     // Whether the index is a member, where it lies in the domain.
@@ -22,6 +26,13 @@ impl DenseBitSet {
             return Err(Refusal::Index(index));
         }
         Ok(has_bit(&self.words, index))
+    }
+
+    // Whether the index is a member; one past the domain is none.
+    pub(crate) fn has_loose(&self, index: usize) -> bool
+        ensures { λ r. ⌜ r ≡ getD (members-of (now (self .entry))) index false ⌝ }
+    {
+        index < self.domain_size && has_bit(&self.words, index)
     }
 
     // How many members there are.
@@ -46,5 +57,14 @@ impl DenseBitSet {
     {
         let n = num_words(self.domain_size);
         self.domain_size == other.domain_size && same_words(&self.words[0..n], &other.words[0..n])
+    }
+
+    // Whether uniting the other set, of the same domain, would bring no index in.
+    pub(crate) fn covers(&self, other: &DenseBitSet) -> bool
+        requires { ⌜ domain-of (now self) ≡ domain-of (now other) ⌝ }
+        ensures { λ r. ⌜ Tells r (Superset (members-of (now (self .entry))) (members-of (now (other .entry)))) ⌝ }
+    {
+        let n = num_words(self.domain_size);
+        !would_modify_words(&self.words[0..n], &other.words[0..n], &Or)
     }
 }

@@ -38,7 +38,11 @@ pub fn write_bit(words: &mut [Word], index: usize, on: bool) -> bool
     ensures row { λ _. ⌜ Rewritten (put (now (words .entry)) index on) (now (words .entry)) (now (words .exit)) ⌝ }
     ensures value { λ r. ⌜ r ≡ cond on (not (holds (now (words .entry)) index)) (holds (now (words .entry)) index) ⌝ }
 {
-    let written = if on { insert(words, index) } else { remove(words, index) };
+    let written = if on {
+        insert(words, index)
+    } else {
+        remove(words, index)
+    };
     match written {
         Ok(turned) => turned,
         Err(_) => false,
@@ -63,7 +67,11 @@ pub fn mask_at(domain: usize, j: usize) -> Word
     ensures { λ r. ⌜ ((k : ℕ) → k < 64 → bit r k ≡ ltb (64 * j + k) domain) ⌝ }
 {
     let left = domain - 64 * j;
-    if left >= WORD_BITS { Word::MAX } else { (1 << left) - 1 }
+    if left >= WORD_BITS {
+        Word::MAX
+    } else {
+        (1 << left) - 1
+    }
 }
 
 // How many bits come and how many go from `old` to `new`.
@@ -71,7 +79,10 @@ pub fn turned(old: Word, new: Word) -> (usize, usize)
     ensures came { λ r. ⌜ r .0 ≡ tally (λ k. enters (bit old k) (bit new k)) 0 64 ⌝ }
     ensures went { λ r. ⌜ r .1 ≡ tally (λ k. enters (bit new k) (bit old k)) 0 64 ⌝ }
 {
-    ((new & !old).count_ones() as usize, (old & !new).count_ones() as usize)
+    (
+        (new & !old).count_ones() as usize,
+        (old & !new).count_ones() as usize,
+    )
 }
 
 // Sets or clears every bit of the row below `domain`, and answers how many came and how many went.
@@ -96,7 +107,12 @@ pub fn fill_row(own: &mut [Word], domain: usize, on: bool) -> (usize, usize)
 }
 
 // Combines the row with another, over `domain` bits, and answers how many came and how many went.
-pub fn combine_row<O: Operator>(op: &O, own: &mut [Word], other: &[Word], domain: usize) -> (usize, usize)
+pub fn combine_row<O: Operator>(
+    op: &O,
+    own: &mut [Word],
+    other: &[Word],
+    domain: usize,
+) -> (usize, usize)
     requires enough { ⌜ words-for domain ≤ length (now own) ⌝ }
     requires other_enough { ⌜ words-for domain ≤ length (now other) ⌝ }
     requires clean { ⌜ Clean domain (now own) ⌝ }

@@ -143,7 +143,6 @@ module _ {T O M : Type 0} (place : T → ℕ) (table : O → Table) (domain : M 
     (seen : (a b : M) → picture a ≡ picture b → (domain a ≡ domain b) × (members a ≡ members b))
     (shown : (a b : M) → domain a ≡ domain b → members a ≡ members b → picture a ≡ picture b)
     (spans : (s : M) (b : Bool) → (e : M) × (domain e ≡ domain s) × (rule e ≡ rule s) × (members e ≡ replicate (domain s) b)) where
-
   agree-same : (n : ℕ) (xs ys : List (Call T O)) → Plain xs → Plain ys → Agree place table xs ys → Same-pictures place table domain members rule picture n xs ys
   unfolding Agree
   agree-same n xs ys px py agree fill s t a b fills ds dt st la lb =
@@ -157,9 +156,9 @@ module _ {T O M : Type 0} (place : T → ℕ) (table : O → Table) (domain : M 
       let la′ : length (members a) ≡ n = ap length ea ∙ wa .long in
       let lb′ : length (members b) ≡ n = ap length eb ∙ wb .long in
       let places : (i : ℕ) → i < length (members a) → getD (members a) i false ≡ getD (members b) i false = λ i h.
-          let h′ : i < n = subst (λ (k : ℕ). i < k) la′ h in
-          ap (λ (x : List Bool). getD x i false) ea ∙ wa .at i h′ ∙ agree (λ j. getD (members (fill j)) i false) (getD (members s) i false)
-          ∙ ap (λ (x : List Bool). trial place table (λ j. getD (members (fill j)) i false) (getD x i false) ys) st ∙ sym (wb .at i h′) ∙ sym (ap (λ (x : List Bool). getD x i false) eb) in
+      let h′ : i < n = subst (λ (k : ℕ). i < k) la′ h in
+      ap (λ (x : List Bool). getD x i false) ea ∙ wa .at i h′ ∙ agree (λ j. getD (members (fill j)) i false) (getD (members s) i false)
+      ∙ ap (λ (x : List Bool). trial place table (λ j. getD (members (fill j)) i false) (getD x i false) ys) st ∙ sym (wb .at i h′) ∙ sym (ap (λ (x : List Bool). getD x i false) eb) in
       shown a b (la .domains ∙ ds ∙ sym (lb .domains ∙ dt)) (ext-getD false (members a) (members b) (la′ ∙ sym lb′) places)
 
   same-agree : (m : M) → 1 ≤ domain m → (xs ys : List (Call T O)) → Plain xs → Plain ys → Same-pictures place table domain members rule picture (domain m) xs ys → Agree place table xs ys
@@ -173,15 +172,16 @@ module _ {T O M : Type 0} (place : T → ℕ) (table : O → Table) (domain : M 
       let uniform : (j : ℕ) → members (fill j) ≡ replicate n (p j) = λ j. spans m (p j) .3 in
       let run-of : List (Call T O) → List Report × List Bool = λ cs. run n (rule m) (replicate n b) (map (move place table domain members rule fill) cs) in
       let leaves : (cs : List (Call T O)) → Plain cs → Leaves place table domain members rule fill cs (of b) (of (trial place table p b cs)) = λ cs h.
-          let w = remains place table domain members rule n (rule m) admits p fill fills uniform b cs h in
-          let from : ℕ → Rule → List Bool → List Report × List Bool = λ k r x. run k r x (map (move place table domain members rule fill) cs) in
-          let e : from (domain (of b)) (rule (of b)) (members (of b)) ≡ from n (rule m) (replicate n b) =
-              ap (λ (k : ℕ). from k (rule (of b)) (members (of b))) (spans m b .1) ∙ ap (λ (r : Rule). from n r (members (of b))) (spans m b .2) ∙ ap (λ (x : List Bool). from n (rule m) x) (spans m b .3) in
-          record {
-              domains = spans m (trial place table p b cs) .1 ∙ sym (spans m b .1);
-              rules = spans m (trial place table p b cs) .2 ∙ sym (spans m b .2);
-              accepted = subst (λ (x : List Report × List Bool). Accepted (x .0)) (sym e) (w .ok);
-              leaves = spans m (trial place table p b cs) .3 ∙ sym (w .is) ∙ sym (ap (λ (x : List Report × List Bool). x .1) e) } in
+      let w = remains place table domain members rule n (rule m) admits p fill fills uniform b cs h in
+      let from : ℕ → Rule → List Bool → List Report × List Bool = λ k r x. run k r x (map (move place table domain members rule fill) cs) in
+      let e : from (domain (of b)) (rule (of b)) (members (of b)) ≡ from n (rule m) (replicate n b) =
+      ap (λ (k : ℕ). from k (rule (of b)) (members (of b))) (spans m b .1) ∙ ap (λ (r : Rule). from n r (members (of b))) (spans m b .2) ∙ ap (λ (x : List Bool). from n (rule m) x) (spans m b .3) in
+      record {
+        domains = spans m (trial place table p b cs) .1 ∙ sym (spans m b .1);
+        rules = spans m (trial place table p b cs) .2 ∙ sym (spans m b .2);
+        accepted = subst (λ (x : List Report × List Bool). Accepted (x .0)) (sym e) (w .ok);
+        leaves = spans m (trial place table p b cs) .3 ∙ sym (w .is) ∙ sym (ap (λ (x : List Report × List Bool). x .1) e);
+      } in
       let pic = same fill (of b) (of b) (of (trial place table p b xs)) (of (trial place table p b ys)) fills (spans m b .1) (spans m b .1) refl (leaves xs px) (leaves ys py) in
       let mem : replicate n (trial place table p b xs) ≡ replicate n (trial place table p b ys) = sym (spans m (trial place table p b xs) .3) ∙ seen _ _ pic .1 ∙ spans m (trial place table p b ys) .3 in
       sym (getD-replicate n 0 (trial place table p b xs) false pos) ∙ ap (λ (x : List Bool). getD x 0 false) mem ∙ getD-replicate n 0 (trial place table p b ys) false pos

@@ -4,3 +4,4 @@ pub mod Operands
 pub mod Running
 pub mod Listing
 pub mod Nexts
+pub mod Patterns

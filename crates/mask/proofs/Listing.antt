@@ -85,13 +85,14 @@ module _ {T : Type 0} (place : T → ℕ) (bs : List Bool) (start : ℕ) (old : 
       let taken : take (k + 1) (drop start (set new filled v)) ≡ take k (drop start new) ++ v ∷ [] = ap (λ (x : List T). take (k + 1) x) moved ∙ take-more-set (drop start new) k v inside in
       let mapped : map place (take (k + 1) (drop start (set new filled v))) ≡ map place (take k (drop start new)) ++ i ∷ [] = ap (λ (x : List T). map place x) taken ∙ map-push place (take k (drop start new)) v ∙ ap (λ (x : ℕ). map place (take k (drop start new)) ++ x ∷ []) e in
       record {
-          put = k + 1;
-          at = let a = p .at in omega (arith, a);
-          long = length-set new filled v ∙ p .long;
-          room = fit;
-          front = take-set-le start new filled v (let a = p .at in omega (arith, a)) ∙ p .front;
-          given = ap (λ (x : List ℕ). x ++ rest) mapped ∙ append-assoc (map place (take k (drop start new))) (i ∷ []) rest ∙ ap (λ (x : List ℕ). map place (take k (drop start new)) ++ x) (sym (f .splits)) ∙ p .given;
-          back = drop-set-lt (filled + 1) new filled v (omega arith) ∙ sym (drop-drop 1 filled new) ∙ ap (λ (x : List T). drop 1 x) (p .back) ∙ drop-drop 1 filled old }
+        put = k + 1;
+        at = let a = p .at in omega (arith, a);
+        long = length-set new filled v ∙ p .long;
+        room = fit;
+        front = take-set-le start new filled v (let a = p .at in omega (arith, a)) ∙ p .front;
+        given = ap (λ (x : List ℕ). x ++ rest) mapped ∙ append-assoc (map place (take k (drop start new))) (i ∷ []) rest ∙ ap (λ (x : List ℕ). map place (take k (drop start new)) ++ x) (sym (f .splits)) ∙ p .given;
+        back = drop-set-lt (filled + 1) new filled v (omega arith) ∙ sym (drop-drop 1 filled new) ∙ ap (λ (x : List T). drop 1 x) (p .back) ∙ drop-drop 1 filled old;
+      }
 
 ok-at : {m n : ℕ} → m ≡ n → _≡_ {A = Result ℕ Refusal} (Ok m) (Ok n)
 ok-at e = ap (λ (k : ℕ). Ok k) e
@@ -125,5 +126,6 @@ module _ {T : Type 0} (place : T → ℕ) (bs : List Bool) (start : ℕ) (old : 
       let b : leb (count bs) (length old - start) ≡ true = le-leb (count bs) (length old - start) (omega (arith, room, e)) in
       let whole = put-all filled new from none p in
       record {
-          answers = ok-at e ∙ sym (cond-true (leb (count bs) (length old - start)) _ _ b) ∙ sym (cond-true (leb n limit) _ _ a);
-          puts = subst (λ (k : ℕ). Put limit place bs start old filled new (Ok k)) (sym e) whole }
+        answers = ok-at e ∙ sym (cond-true (leb (count bs) (length old - start)) _ _ b) ∙ sym (cond-true (leb n limit) _ _ a);
+        puts = subst (λ (k : ℕ). Put limit place bs start old filled new (Ok k)) (sym e) whole;
+      }

@@ -35,5 +35,5 @@ pub next-some : (bs : List Bool) (from i : ℕ) → from ≤ i → getD bs i fal
 next-some bs from i a e h =
     let s : from + (i - from) ≡ i = omega arith in
     first-some from (drop from bs) (i - from) (getD-drop from bs (i - from) false ∙ ap (λ x. getD bs x false) s ∙ e)
-      (λ j l. getD-drop from bs j false ∙ h (from + j) (omega arith) (omega arith))
+    (λ j l. getD-drop from bs j false ∙ h (from + j) (omega arith) (omega arith))
     ∙ ap Some s

@@ -20,14 +20,15 @@ appended-more items start old filled new x room a =
     let inside : k < length (drop start new) = let u = length-drop start new in omega (arith, u, at, room) in
     let moved : drop start (set new filled x) ≡ set (drop start new) k x = ap (λ (y : ℕ). drop start (set new y x)) at ∙ drop-set-add start new k x in
     record {
-        counts = omega (arith, at, more);
-        long = length-set new filled x ∙ a .long;
-        before = take-set-le start new filled x (omega (arith, at)) ∙ a .before;
-        holds = ap (λ (y : ℕ). take y (drop start (set new filled x))) more ∙ ap (λ (l : List _). take (k + 1) l) moved ∙ take-more-set (drop start new) k x inside ∙ ap (λ (l : List _). l ++ x ∷ []) (a .holds);
-        behind =
+      counts = omega (arith, at, more);
+      long = length-set new filled x ∙ a .long;
+      before = take-set-le start new filled x (omega (arith, at)) ∙ a .before;
+      holds = ap (λ (y : ℕ). take y (drop start (set new filled x))) more ∙ ap (λ (l : List _). take (k + 1) l) moved ∙ take-more-set (drop start new) k x inside ∙ ap (λ (l : List _). l ++ x ∷ []) (a .holds);
+      behind =
           let p : start + length (items ++ x ∷ []) ≡ filled + 1 = omega (arith, at, more) in
           let b : drop filled new ≡ drop filled old = ap (λ (y : ℕ). drop y new) at ∙ a .behind ∙ sym (ap (λ (y : ℕ). drop y old) at) in
-          ap (λ (y : ℕ). drop y (set new filled x)) p ∙ drop-set-lt (filled + 1) new filled x (omega arith) ∙ sym (drop-drop 1 filled new) ∙ ap (λ (l : List _). drop 1 l) b ∙ drop-drop 1 filled old ∙ sym (ap (λ (y : ℕ). drop y old) p) }
+          ap (λ (y : ℕ). drop y (set new filled x)) p ∙ drop-set-lt (filled + 1) new filled x (omega arith) ∙ sym (drop-drop 1 filled new) ∙ ap (λ (l : List _). drop 1 l) b ∙ drop-drop 1 filled old ∙ sym (ap (λ (y : ℕ). drop y old) p);
+    }
 
 -- what is left of the run from here on, behind the reports that are done, is the whole run
 abbrev pub Midway : ℕ → Rule → List Bool → List Move → List Report → List Bool → ℕ → Type 0

@@ -1,17 +1,23 @@
 -- One-bit trials of call lists, and what they decide. A kind of mask is given by its domain, members, rule and picture.
 use mathlib.Core.Path.{_≡_}
-use mathlib.Core.List.{List, [], _∷_, map}
+use mathlib.Core.List.{List, [], _∷_, _++_, map}
 use mathlib.Core.Bool.{Bool, true, false, cond}
 use lib.Dec.{ltb}
 use Rattle.std.specs.declared.option.Option.{Option}
 use Rattle.std.specs.declared.option.Option.the-variants.{Some, None}
-use Prim.Native.Nat.{ℕ, _≤_, _<_}
+use Prim.Native.Nat.{ℕ, _+_, _≤_, _<_}
+use Rattle.std.specs.declared.result.Result.{Result}
+use Rattle.std.specs.declared.result.Result.the-variants.{Ok, Err}
 use Rattle.std.specs.Results.{isOk}
+use Rattle.words.specs.Bits.{bit}
 use Rattle.words.specs.declared.table.Table.{Table}
 use Rattle.words.specs.Tables.{look}
+use Rattle.mask.specs.Kinds.{Tells}
 use Rattle.mask.specs.Machine.{Move, insert, remove, clear, insert-all, combine, run, Rule, Report}
 use Rattle.mask.specs.declared.calls.Call.{Call}
 use Rattle.mask.specs.declared.calls.Call.the-variants.{Insert, Remove, Clear, InsertAll, Combine}
+use Rattle.mask.specs.declared.trials.NotTried.{NotTried}
+use Rattle.mask.specs.declared.trials.NotTried.the-variants.{Single, Operand}
 
 unfoldable pub Accepted : List Report → Type 0
 Accepted [] = Unit {0}
@@ -34,6 +40,15 @@ past-row n (Clear ∷ cs) = past-row n cs
 past-row n (InsertAll ∷ cs) = past-row n cs
 past-row n (Combine o j ∷ cs) = cond (ltb j n) (past-row n cs) (Some j)
 
+-- the first call of a list that cannot be tried: one on a single index, or one with an operand of number 16 or more
+unfoldable pub untried : {T O : Type 0} → List (Call T O) → Option NotTried
+untried [] = None
+untried (Insert i ∷ cs) = Some Single
+untried (Remove i ∷ cs) = Some Single
+untried (Clear ∷ cs) = untried cs
+untried (InsertAll ∷ cs) = untried cs
+untried (Combine o j ∷ cs) = cond (ltb j 16) (untried cs) (Some (Operand j))
+
 -- only combine, clear and insert_all
 unfoldable pub Plain : {T O : Type 0} → List (Call T O) → Type 0
 Plain [] = Unit {0}
@@ -55,6 +70,10 @@ module _ {T O : Type 0} (place : T → ℕ) (table : O → Table) where
   unfoldable pub trial : (ℕ → Bool) → Bool → List (Call T O) → Bool
   trial p b [] = b
   trial p b (c ∷ cs) = trial p (bit-after p b c) cs
+
+  -- the trial on the pattern of number v: bit 0 is for the start, bit j + 1 for operand j
+  abbrev pub pattern-trial : ℕ → List (Call T O) → Bool
+  pattern-trial v cs = trial (λ j. bit v (j + 1)) (bit v 0) cs
 
   unfoldable pub Agree : List (Call T O) → List (Call T O) → Type 0
   Agree xs ys = (p : ℕ → Bool) (b : Bool) → trial p b xs ≡ trial p b ys
@@ -86,3 +105,9 @@ module _ {T O : Type 0} (place : T → ℕ) (table : O → Table) where
       Trials-decide xs ys =
           Plain xs → Plain ys → (m : M) → 1 ≤ domain m
           → (Agree xs ys → Same-pictures (domain m) xs ys) × (Same-pictures (domain m) xs ys → Agree xs ys)
+
+      -- what the trials of two lists answer: whether they agree on every pattern, or the first call that cannot be tried
+      abbrev pub Tried : List (Call T O) → List (Call T O) → Result Bool NotTried → Type 0
+      Tried xs ys (Ok b) =
+          (untried (xs ++ ys) ≡ None) × Tells b (Agree xs ys) × ((m : M) → 1 ≤ domain m → Tells b (Same-pictures (domain m) xs ys))
+      Tried xs ys (Err e) = untried (xs ++ ys) ≡ Some e

@@ -21,7 +21,11 @@ pub enum Call<T, O> {
 }
 
 // One call of a list, whose operand is one of the row.
-pub(crate) fn apply_call<M: Mask, T: Idx, O: Operator>(mask: &mut M, row: &[M], call: Call<T, O>) -> Result<(usize, usize), Refusal>
+pub(crate) fn apply_call<M: Mask, T: Idx, O: Operator>(
+    mask: &mut M,
+    row: &[M],
+    call: Call<T, O>,
+) -> Result<(usize, usize), Refusal>
     requires { ⌜ Named (length (now row)) call ⌝ }
     ensures machine { λ r. ⌜ ((d : M) → (r, members (now (mask .exit))) ≡ step (domain (now (mask .entry))) (rule (now (mask .entry))) (members (now (mask .entry))) (move place table domain members rule (λ j. getD (now (row .entry)) j d) call)) ⌝ }
     ensures kept { λ _. ⌜ Kept domain rule spare (now (mask .entry)) (now (mask .exit)) ⌝ }
@@ -40,13 +44,7 @@ fn past_call<T: Idx, O: Operator>(call: Call<T, O>, rows: usize) -> Option<usize
     ensures { λ r. ⌜ r ≡ past-row rows (call ∷ []) ⌝ }
 {
     match call {
-        Call::Combine(_, j) => {
-            if j < rows {
-                None
-            } else {
-                Some(j)
-            }
-        }
+        Call::Combine(_, j) => { if j < rows { None } else { Some(j) } }
         _ => None,
     }
 }

@@ -35,6 +35,7 @@ pub trait Mask: Sized {
     type Memory: Drop;
 
     ghost domain: { Self → ℕ };
+
     ghost members: { Self → List Bool };
     // Which member sets this mask can hold.
     ghost rule: { Self → List Bool → Bool };
@@ -45,14 +46,21 @@ pub trait Mask: Sized {
 
     // Of memory that is handed over: whether it suffices, the rule that it gives, and what stays past the mask's part.
     ghost suffices: { ℕ → Self·Memory → Bool };
+
     ghost given: { ℕ → Self·Memory → List Bool → Bool };
+
     ghost past: { ℕ → Self·Memory → List ℕ };
 
     law long: { (s : Self) → length (members s) ≡ domain s };
+
     law held: { (s : Self) → rule s (members s) ≡ true };
+
     law empty: { (s : Self) → rule s (replicate (domain s) false) ≡ true };
+
     law full: { (s : Self) → rule s (replicate (domain s) true) ≡ true };
+
     law seen: { (a b : Self) → picture a ≡ picture b → (domain a ≡ domain b) × (members a ≡ members b) };
+
     law shown: { (a b : Self) → domain a ≡ domain b → members a ≡ members b → picture a ≡ picture b };
     // Of each mask's domain and rule there are an empty and a full one.
     law spans: { (s : Self) (b : Bool) → (e : Self) × (domain e ≡ domain s) × (rule e ≡ rule s) × (members e ≡ replicate (domain s) b) };

@@ -4,6 +4,7 @@ pub mod collector;
 pub mod kind;
 pub mod lister;
 pub mod successions;
+pub mod trials;
 
 pub use calls::Call;
 pub use collector::Collector;
@@ -13,3 +14,5 @@ pub use lister::list;
 pub use successions::Left;
 pub use successions::NotRun;
 pub use successions::run_from_new;
+pub use trials::NotTried;
+pub use trials::trials_agree;

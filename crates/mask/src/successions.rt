@@ -23,7 +23,12 @@ use index::Refusal;
 use words::Operator;
 
 // The calls of a list, one after another, each with its report.
-fn run_calls<M: Mask, T: Idx, O: Operator>(mask: &mut M, row: &[M], calls: &[Call<T, O>], reports: &mut Collector<'_, Result<(usize, usize), Refusal>>)
+fn run_calls<M: Mask, T: Idx, O: Operator>(
+    mask: &mut M,
+    row: &[M],
+    calls: &[Call<T, O>],
+    reports: &mut Collector<'_, Result<(usize, usize), Refusal>>,
+)
     requires { ⌜ ((k : ℕ) (c : Called T O) → k < length (now calls) → Named (length (now row)) (getD (now calls) k c)) ⌝ ∗ ⌜ now reports .filled + length (now calls) ≤ length (now reports .places .now) ⌝ }
     ensures machine { λ _. ⌜ ((d : M) → Ran (run (domain (now (mask .entry))) (rule (now (mask .entry))) (members (now (mask .entry))) (map (move place table domain members rule (λ j. getD (now (row .entry)) j d)) (now (calls .entry)))) (members (now (mask .exit))) (now (reports .entry) .filled) (now (reports .entry) .places .now) (now (reports .exit) .filled) (now (reports .exit) .places .now)) ⌝ }
     ensures kept { λ _. ⌜ Kept domain rule spare (now (mask .entry)) (now (mask .exit)) ⌝ }
@@ -52,7 +57,11 @@ pub enum NotRun<A> {
 fn new_mask<M: Mask>(full: bool, n: usize, memory: M::Memory) -> Result<M, Refused<M::Memory>>
     ensures { λ r. ⌜ Made domain rule spare suffices given past members full n memory r ⌝ }
 {
-    if full { M::new_filled(n, memory) } else { M::new_empty(n, memory) }
+    if full {
+        M::new_filled(n, memory)
+    } else {
+        M::new_empty(n, memory)
+    }
 }
 
 // A mask from new, the calls on it, each with its report, and a listing of what is left.
@@ -68,14 +77,17 @@ pub fn run_from_new<M: Mask, T: Idx, O: Operator>(
     ensures { λ r. ⌜ ByOk r (λ left. (past-row (length (now (row .entry))) (now (calls .entry)) ≡ None) × (length (now (calls .entry)) ≤ length (now (reports .entry) .places .now) - now (reports .entry) .filled) × (suffices n memory ≡ true) × (spare (left .mask) ≡ past n memory)
         × ((made : List Report) × Appended made (now (reports .entry) .filled) (now (reports .entry) .places .now) (now (reports .exit) .filled) (now (reports .exit) .places .now) × Succession domain members rule picture table limit place n (given n memory) full (now (row .entry)) (now (calls .entry)) made (left .mask))
         × Listed limit place n (members (left .mask)) (now (out .entry) .filled) (now (out .entry) .places .now) (now (out .exit) .filled) (now (out .exit) .places .now) (left .listed))
-      (λ e. Not-run (past-row (length (now (row .entry))) (now (calls .entry))) (length (now (calls .entry))) (length (now (reports .entry) .places .now) - now (reports .entry) .filled) (suffices n memory) memory e
+        (λ e. Not-run (past-row (length (now (row .entry))) (now (calls .entry))) (length (now (calls .entry))) (length (now (reports .entry) .places .now) - now (reports .entry) .filled) (suffices n memory) memory e
         × (now (reports .exit) .places .now ≡ now (reports .entry) .places .now) × (now (reports .exit) .filled ≡ now (reports .entry) .filled) × (now (out .exit) .places .now ≡ now (out .entry) .places .now) × (now (out .exit) .filled ≡ now (out .entry) .filled)) ⌝ }
 {
     if let Some(j) = past_row(calls, row.len()) {
         return Err(NotRun::Operand(j, memory));
     }
     if reports.free() < calls.len() {
-        return Err(NotRun::Refused(Refused { refusal: Refusal::Places, memory }));
+        return Err(NotRun::Refused(Refused {
+            refusal: Refusal::Places,
+            memory,
+        }));
     }
     match new_mask(full, n, memory) {
         Err(e) => Err(NotRun::Refused(e)),

@@ -139,9 +139,9 @@ bit-top w j low high =
 
 pub and-pow : (w m : ℕ) → w < 2 ^ 64 → m < 64 → not (eqb (bitAnd w (2 ^ m)) 0) ≡ bit w m
 and-pow w m hw hm = elim (cases-eq (bitAnd w (2 ^ m)) 0) [
-    | inl e ↦ ap not (eq-eqb (bitAnd w (2 ^ m)) 0 e) ∙ sym (off (bit w m) (sym (at-m m) ∙ ap (λ x. bit x m) e ∙ bit-none m))
-    | inr ne ↦ ap not (ne-eqb (bitAnd w (2 ^ m)) 0 ne) ∙ sym (on (bit w m) refl ne)
-  ]
+  | inl e ↦ ap not (eq-eqb (bitAnd w (2 ^ m)) 0 e) ∙ sym (off (bit w m) (sym (at-m m) ∙ ap (λ x. bit x m) e ∙ bit-none m))
+  | inr ne ↦ ap not (ne-eqb (bitAnd w (2 ^ m)) 0 ne) ∙ sym (on (bit w m) refl ne)
+]
   where
     at-m : (k : ℕ) → bit (bitAnd w (2 ^ m)) k ≡ (bit w k && eqb k m)
     at-m k = bit-and w (2 ^ m) k ∙ ap (λ x. bit w k && x) (bit-pow m k)
@@ -156,9 +156,9 @@ and-pow w m hw hm = elim (cases-eq (bitAnd w (2 ^ m)) 0) [
       where
         none : (k : ℕ) → (bit w k && eqb k m) ≡ false
         none k = elim (cases-eq k m) [
-            | inl q ↦ and-left (bit w k) (eqb k m) (ap (bit w) q ∙ e)
-            | inr q ↦ and-right (bit w k) (eqb k m) (ne-eqb k m q)
-          ]
+          | inl q ↦ and-left (bit w k) (eqb k m) (ap (bit w) q ∙ e)
+          | inr q ↦ and-right (bit w k) (eqb k m) (ne-eqb k m q)
+        ]
 
 -- ---- the lowest set bit
 
@@ -176,10 +176,10 @@ trailing-even k w e = rw e
 pub trailing-low : (m w : ℕ) → 0 < w → w < 2 ^ m → (trailingZeros m w < m) × Low w (trailingZeros m w)
 trailing-low zero w p h = absurd (omega (arith, lt-one h))
 trailing-low (suc m) w p h = elim (even-or-odd w) [
-    | inr e ↦ rw (trailing-odd m w e) (omega arith, record { set = rw (bit-zero, e); below = λ j l. absurd (omega arith) })
-    | inl e ↦ (let r = trailing-low m (w / 2) (omega arith) (half-below w m h) in
-        rw (trailing-even m w e) (omega (arith, r .0), record { set = bit-suc w (trailingZeros m (w / 2)) ∙ r .1 .set; below = even-below w m e (r .1) }))
-  ]
+  | inr e ↦ rw (trailing-odd m w e) (omega arith, record { set = rw (bit-zero, e); below = λ j l. absurd (omega arith) })
+  | inl e ↦ (let r = trailing-low m (w / 2) (omega arith) (half-below w m h) in
+      rw (trailing-even m w e) (omega (arith, r .0), record { set = bit-suc w (trailingZeros m (w / 2)) ∙ r .1 .set; below = even-below w m e (r .1) }))
+]
   where
     even-below : (w m : ℕ) → w % 2 ≡ 0 → Low (w / 2) (trailingZeros m (w / 2)) → (j : ℕ) → j < suc (trailingZeros m (w / 2)) → bit w j ≡ false
     even-below w m e r zero l = rw (bit-zero, e)

@@ -62,11 +62,12 @@ set-fit ws j w within small k h = elim (cases-eq k j) [
 pub set-rest : (f : ℕ → Bool) (ws : List ℕ) (j w : ℕ) → j < length ws → w < 2 ^ 64 → getD ws j 0 < 2 ^ 64 → ((i : ℕ) → holds (set ws j w) i ≡ f i)
     → (k : ℕ) → ((b : ℕ) → b < 64 → f (64 * k + b) ≡ holds ws (64 * k + b)) → getD (set ws j w) k 0 ≡ getD ws k 0
 set-rest f ws j w within small read bits k stays = elim (cases-eq k j) [
-      inl e ↦ (let stays-here : (b : ℕ) → b < 64 → f (64 * j + b) ≡ holds ws (64 * j + b) = subst (λ x. (b : ℕ) → b < 64 → f (64 * x + b) ≡ holds ws (64 * x + b)) e stays in
-        let same : w ≡ getD ws j 0 = same-bits 64 w (getD ws j 0) small read (λ b l.
-            sym (holds-word (set ws j w) j b l ∙ ap (λ x. bit x b) (getD-set-same ws j w 0 within)) ∙ bits (64 * j + b) ∙ stays-here b l ∙ holds-word ws j b l) in
-        ap (λ x. getD (set ws j w) x 0) e ∙ getD-set-same ws j w 0 within ∙ same ∙ ap (λ x. getD ws x 0) (sym e))
-    | inr ne ↦ getD-set-other ws j k w 0 ne ]
+  | inl e ↦ (let stays-here : (b : ℕ) → b < 64 → f (64 * j + b) ≡ holds ws (64 * j + b) = subst (λ x. (b : ℕ) → b < 64 → f (64 * x + b) ≡ holds ws (64 * x + b)) e stays in
+      let same : w ≡ getD ws j 0 = same-bits 64 w (getD ws j 0) small read (λ b l.
+      sym (holds-word (set ws j w) j b l ∙ ap (λ x. bit x b) (getD-set-same ws j w 0 within)) ∙ bits (64 * j + b) ∙ stays-here b l ∙ holds-word ws j b l) in
+      ap (λ x. getD (set ws j w) x 0) e ∙ getD-set-same ws j w 0 within ∙ same ∙ ap (λ x. getD ws x 0) (sym e))
+  | inr ne ↦ getD-set-other ws j k w 0 ne
+]
 
 -- ---- counting the set bits, word by word
 

@@ -43,7 +43,7 @@ loop-i-again g c =
     let bs : List Bool = g .M·Mask .members (c .args .mask .now) in
     let f : Found bs (c .loop-i .from) (c .in-Some .i) = found _ _ _ (sym (c .next-member .ensures) ∙ c .in-Some .is) in
     elim (c .match-new .came) [
-        in-Some-new w ↦
+      | in-Some-new w ↦
           partly-at (g .T·Idx .place) bs (c .args .out .now .filled) (c .args .out .now .places .now) (c .in-Some .i + 1)
           (ap (λ x. x .filled) (w .out-is) ∙ w .push .ensures .filled) (ap (λ x. x .places .now) (w .out-is) ∙ w .push .ensures .places)
           (partly-more (g .T·Idx .place) bs (c .args .out .now .filled) (c .args .out .now .places .now) (c .loop-i .out .filled) (c .loop-i .out .places .now) (c .loop-i .from) (c .in-Some .i) (w .in-Some-new .v) f (w .in-Some-new .ensures tt .1) (c .loop-i .inv))
@@ -53,7 +53,8 @@ loop-i-again g c =
           let d = leb-true _ _ (sym (c .covers .ensures) ∙ c .if-not-covers .left) in
           let h = w .in-rest-new .ensures tt in
           let e = c .domain-size-n .ensures in
-          absurd (omega (arith, a, b, d, e, h)) ]
+          absurd (omega (arith, a, b, d, e, h))
+    ]
 
 pub returns : need.returns
 returns g c =

@@ -14,7 +14,7 @@ Inv-loop-c g l =
     × Appended done (l .entry .reports .filled) (l .entry .reports .places .now) (l .reports .filled) (l .reports .places .now)
     × (length done ≡ l .c-index)
     × ((d : g .M .Denot) → Midway (g .M·Mask .domain (l .entry .mask)) (g .M·Mask .rule (l .entry .mask)) (g .M·Mask .members (l .entry .mask))
-      (map (move (g .T·Idx .place) (g .O·Operator .table) (g .M·Mask .domain) (g .M·Mask .members) (g .M·Mask .rule) (λ j. getD (l .row) j d)) (l .calls)) done (g .M·Mask .members (l .mask)) (l .c-index))
+    (map (move (g .T·Idx .place) (g .O·Operator .table) (g .M·Mask .domain) (g .M·Mask .members) (g .M·Mask .rule) (λ j. getD (l .row) j d)) (l .calls)) done (g .M·Mask .members (l .mask)) (l .c-index))
     × (g .M·Mask .domain (l .mask) ≡ g .M·Mask .domain (l .entry .mask))
     × (g .M·Mask .rule (l .mask) ≡ g .M·Mask .rule (l .entry .mask))
     × (g .M·Mask .spare (l .mask) ≡ g .M·Mask .spare (l .entry .mask))

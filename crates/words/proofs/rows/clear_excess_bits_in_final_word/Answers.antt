@@ -16,5 +16,6 @@ returns-else-num-bits-in-final-word-gt0 c =
         | inl e ↦ (let past = holds-past ws i (omega (arith, e .1)) in past ∙ sym (trimmed-past r ws i past))
         | inr e ↦ sym (trimmed-none r ws i (omega (arith, e)))
       ];
-      fit = λ k h. h; rest = λ k h. refl;
+      fit = λ k h. h;
+      rest = λ k h. refl;
     }

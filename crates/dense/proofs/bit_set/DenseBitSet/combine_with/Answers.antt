@@ -22,7 +22,7 @@ ghost-self g c =
     let t = g .O·Operator .table (c .args .op .now) in
     let s = c .args .self .now in
     let b = lent-becomes (s .words) (c .deref-mut .result .now) (c .combine-row .last .own) (c .deref-mut .ensures .value) _ (λ i. look t (holds (vec-items (s .words)) i) (holds (vec-items (c .args .other .now .words)) i)) _ _
-        (λ i h. ap₂ (λ x y. look t (holds x i) (holds y i)) (c .deref-mut .ensures .value) (c .deref .ensures .value)) (c .combine-row .ensures) in
+    (λ i h. ap₂ (λ x y. look t (holds x i) (holds y i)) (c .deref-mut .ensures .value) (c .deref .ensures .value)) (c .combine-row .ensures) in
     (s .enough, (b .fit, (b .clean, tt)))
 
 pub returns : need.returns
@@ -33,7 +33,7 @@ returns g c =
     let own = vec-items (s .words) in
     let other = vec-items (c .args .other .now .words) in
     let b = lent-becomes (s .words) (c .deref-mut .result .now) (c .combine-row .last .own) (c .deref-mut .ensures .value) _ (λ i. look t (holds own i) (holds other i)) _ _
-        (λ i h. ap₂ (λ x y. look t (holds x i) (holds y i)) (c .deref-mut .ensures .value) (c .deref .ensures .value)) (c .combine-row .ensures) in
+    (λ i h. ap₂ (λ x y. look t (holds x i) (holds y i)) (c .deref-mut .ensures .value) (c .deref .ensures .value)) (c .combine-row .ensures) in
     let z = becomes-members _ _ _ _ _ b ∙ sym (through-tab t (holds own) (holds other) n) ∙ ap (λ x. through t (tab (holds own) n) (tab (holds other) x)) (c .if-self-other .left) in
     record {
       machine = combine-in n _ _ _ _ refl (becomes-came _ _ _ _ _ b) (becomes-went _ _ _ _ _ b) t _ _ (c .if-self-other .left) z;

@@ -16,4 +16,4 @@ returns c =
     let n : c .num-words-n .result - 0 ≡ words-for (s .«domain_size») = omega (arith, c .num-words-n .ensures) in
     let row = ap₂ (λ w xs. take w xs) n (c .deref .ensures .value) in
     row-next (s .«domain_size») (vec-items (s .words)) (c .args .from) (c .next-set .result) (omega (arith, s .enough, s .words .ok .0)) (s .clean)
-      (subst (λ (ws : List ℕ). Lowest (holds ws) (c .args .from) (64 * length ws) (c .next-set .result)) row (c .next-set .ensures))
+    (subst (λ (ws : List ℕ). Lowest (holds ws) (c .args .from) (64 * length ws) (c .next-set .result)) row (c .next-set .ensures))

@@ -33,14 +33,26 @@ shown-law a b p e =
 -- the mask with the first m bits set
 abbrev first : (s : DenseBitSet) (m : ℕ) → m ≤ s .«domain_size» → DenseBitSet
 first s m h =
-    record { «domain_size» = s .«domain_size»; words = refilled (s .words) (run-row m (words-for (s .«domain_size»))); enough = s .enough
-           ; fit = run-fit (s .«domain_size») (s .words .len) m (s .words .items) (s .enough)
-           ; clean = λ i l k. holds-run (s .«domain_size») (s .words .len) m (s .words .items) (s .enough) i k ∙ le-ltb i m (omega arith) }
+    record {
+      «domain_size» = s .«domain_size»;
+      words = refilled (s .words) (run-row m (words-for (s .«domain_size»)));
+      enough = s .enough;
+      fit = run-fit (s .«domain_size») (s .words .len) m (s .words .items) (s .enough);
+      clean = λ i l k. holds-run (s .«domain_size») (s .words .len) m (s .words .items) (s .enough) i k ∙ le-ltb i m (omega arith);
+    }
 
 pub spans-law : need.spans-law
-spans-law s true = (first s (s .«domain_size») (omega arith), refl, refl,
-    sym (tab-is (holds (vec-items (first s (s .«domain_size») (omega arith) .words))) (replicate (s .«domain_size») true) (s .«domain_size») (length-replicate (s .«domain_size») true) (λ i l.
-      getD-replicate (s .«domain_size») i true false l ∙ sym (holds-run (s .«domain_size») (s .words .len) (s .«domain_size») (s .words .items) (s .enough) i (omega arith) ∙ lt-ltb i (s .«domain_size») l))))
-spans-law s false = (first s 0 (omega arith), refl, refl,
-    sym (tab-is (holds (vec-items (first s 0 (omega arith) .words))) (replicate (s .«domain_size») false) (s .«domain_size») (length-replicate (s .«domain_size») false) (λ i l.
-      getD-replicate (s .«domain_size») i false false l ∙ sym (holds-run (s .«domain_size») (s .words .len) 0 (s .words .items) (s .enough) i (omega arith) ∙ le-ltb i 0 (omega arith)))))
+spans-law s true = (
+  first s (s .«domain_size») (omega arith),
+  refl,
+  refl,
+  sym (tab-is (holds (vec-items (first s (s .«domain_size») (omega arith) .words))) (replicate (s .«domain_size») true) (s .«domain_size») (length-replicate (s .«domain_size») true) (λ i l.
+      getD-replicate (s .«domain_size») i true false l ∙ sym (holds-run (s .«domain_size») (s .words .len) (s .«domain_size») (s .words .items) (s .enough) i (omega arith) ∙ lt-ltb i (s .«domain_size») l))),
+)
+spans-law s false = (
+  first s 0 (omega arith),
+  refl,
+  refl,
+  sym (tab-is (holds (vec-items (first s 0 (omega arith) .words))) (replicate (s .«domain_size») false) (s .«domain_size») (length-replicate (s .«domain_size») false) (λ i l.
+      getD-replicate (s .«domain_size») i false false l ∙ sym (holds-run (s .«domain_size») (s .words .len) 0 (s .words .items) (s .enough) i (omega arith) ∙ le-ltb i 0 (omega arith)))),
+)
