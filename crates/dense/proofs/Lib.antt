@@ -5,3 +5,4 @@ pub mod Steps
 pub mod Lent
 pub mod Seeking
 pub mod Alike
+pub mod Combining

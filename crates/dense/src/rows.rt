@@ -5,7 +5,7 @@ ghost use mathlib.Core.Bool.{Bool, true, false, cond, not};
 ghost use mathlib.Core.List.{_++_};
 ghost use mathlib.Core.Path.{_≡_};
 ghost use Prim.Native.Nat.{ℕ, _+_, _*_, _/_, _^_, _<_, _≤_};
-ghost use Rattle.dense.specs.Members.{Becomes, Clean, Lowest};
+ghost use Rattle.dense.specs.Members.{Becomes, Fit, Clean, Lowest};
 ghost use Rattle.std.specs.Of.Vec.{vec-items, vec-len};
 ghost use Rattle.words.specs.Bits.{bit, holds, one, tally, words-for, Low};
 ghost use Rattle.words.specs.Rows.{Rewritten, put, enters};
@@ -20,6 +20,7 @@ use words::Word;
 use words::insert;
 use words::num_words;
 use words::remove;
+use words::update_words;
 use words::word_index_and_mask;
 use words::would_modify_words;
 
@@ -115,23 +116,21 @@ pub fn combine_row<O: Operator>(
 ) -> (usize, usize)
     requires enough { ⌜ words-for domain ≤ length (now own) ⌝ }
     requires other_enough { ⌜ words-for domain ≤ length (now other) ⌝ }
+    requires fit { ⌜ Fit domain (now own) ⌝ }
     requires clean { ⌜ Clean domain (now own) ⌝ }
     ensures { λ r. ⌜ Becomes (λ i. look (table (now (op .entry))) (holds (now (own .entry)) i) (holds (now (other .entry)) i)) domain (now (own .entry)) (now (own .exit)) r ⌝ }
 {
-    let n = num_words(domain);
-    let mut came = 0;
-    let mut went = 0;
-    for j in 0..n {
-        let old = own[j];
-        let operand = other[j];
-        let mask = mask_at(domain, j);
-        let new = op.apply(old, operand) & mask;
-        let (c, w) = turned(old, new);
-        own[j] = new;
-        came += c;
-        went += w;
+    let whole = domain / WORD_BITS;
+    let (entered, left) = update_words(&mut own[0..whole], &other[0..whole], op);
+    if domain % WORD_BITS == 0 {
+        return (entered, left);
     }
-    (came, went)
+    // Bits past the domain would count and would stay, so the last word goes by itself.
+    let old = own[whole];
+    let new = op.apply(old, other[whole]) & mask_at(domain, whole);
+    own[whole] = new;
+    let (came, went) = turned(old, new);
+    (entered + came, left + went)
 }
 
 // The lowest set bit of a word that has one.
