@@ -7,6 +7,7 @@ use words::Word;
 
 // A fixed-size bit set with a bit for each index below `domain_size`, in the first words of a Vec.
 // Words past those are not the set's own and never change.
+#[derive(Drop)]
 pub struct DenseBitSet {
     pub(crate) domain_size: usize,
     pub(crate) words: Vec<Word>,

@@ -1,0 +1,4 @@
+pub mod Steps
+pub mod Masks
+pub mod Strips
+pub mod Lines
