@@ -58,6 +58,10 @@ pub impl Mask for DenseBitSet as DenseMask {
         self.seek(from)
     }
 
+    fn member_word(&self, k: usize) -> Word {
+        self.word(k)
+    }
+
     fn same_picture(&self, other: &Self) -> bool {
         self.looks_like(other)
     }

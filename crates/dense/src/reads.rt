@@ -3,7 +3,7 @@ ghost use lib.ListN.{getD};
 ghost use mathlib.Core.Bool.{Bool, false};
 ghost use mathlib.Core.Path.{_≡_};
 ghost use Rattle.dense.specs.Sets.{domain-of, members-of, picture-of, Superset};
-ghost use Rattle.mask.specs.Kinds.{Tells};
+ghost use Rattle.mask.specs.Kinds.{Shows, Tells};
 ghost use Rattle.mask.specs.Machine.{contained, count, next-member};
 use crate::bit_set::DenseBitSet;
 use crate::rows::has_bit;
@@ -13,6 +13,7 @@ use index::Refusal;
 use index::UsizeIdx;
 use words::Or;
 use words::OrOperator;
+use words::Word;
 use words::count_ones;
 use words::num_words;
 use words::would_modify_words;
@@ -41,6 +42,17 @@ impl DenseBitSet {
     {
         let n = num_words(self.domain_size);
         count_ones(&self.words[0..n])
+    }
+
+    // The members from 64 × k on, which are the bits of word k.
+    pub(crate) fn word(&self, k: usize) -> Word
+        ensures { λ r. ⌜ Shows (members-of (now (self .entry))) k r ⌝ }
+    {
+        if k < num_words(self.domain_size) {
+            self.words[k]
+        } else {
+            0
+        }
     }
 
     // The lowest member at or after a number.

@@ -1,7 +1,7 @@
+pub mod Nexts
 pub mod Decides
 pub mod Balance
 pub mod Operands
 pub mod Running
 pub mod Listing
-pub mod Nexts
 pub mod Patterns

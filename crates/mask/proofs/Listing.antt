@@ -1,11 +1,11 @@
 -- A loop that puts the members, one after another, into a collector's places.
 use mathlib.Core.Path.{_≡_, refl, sym, ap, ap₂, _∙_, subst}
 use mathlib.Core.List.{List, [], _∷_, _++_, map, append-assoc}
-use mathlib.Core.Bool.{Bool, true, false}
-use Prim.Native.Nat.{ℕ, zero, suc, _+_, _-_, _≤_, _<_}
+use mathlib.Core.Bool.{Bool, true, false, cond, _&&_}
+use Prim.Native.Nat.{ℕ, zero, suc, _+_, _-_, _*_, _≤_, _<_}
 use native.Mathlib.Omega.{arith}
 use lib.ListN.{length, getD, set, take, drop}
-use Rattle.std.proofs.shelf.Lists.{length-set, take-set-le, drop-set-add, take-more-set, map-push, drop-drop, drop-set-lt, length-drop, append-nil, length-map, length-take-le}
+use Rattle.std.proofs.shelf.Lists.{length-set, take-set-le, drop-set-add, take-more-set, map-push, drop-drop, drop-set-lt, length-drop, append-nil, length-map, length-take-le, drop-more, drop-all}
 use Rattle.std.specs.declared.option.Option.the-variants.{Some, None}
 use Rattle.words.specs.Bits.{one}
 use Rattle.mask.specs.Machine.{indices, first, next-member, count}
@@ -13,8 +13,13 @@ use Rattle.mask.specs.Successions.{Listed, Put, answer-of}
 use Rattle.index.specs.declared.refusal.Refusal.{Refusal}
 use Rattle.std.specs.declared.result.Result.{Result}
 use Rattle.std.specs.declared.result.Result.the-variants.{Ok}
-use Rattle.std.proofs.shelf.Tests.{le-leb, cond-true}
-use lib.Dec.{leb}
+use Rattle.std.proofs.shelf.Tests.{le-leb, lt-leb, leb-true, eq-eqb, ne-eqb, cases-lt, cases-order, and-parts, and-right, cond-true}
+use lib.Dec.{eqb, leb}
+use mathlib.Core.Logic.{inl, inr}
+use Rattle.mask.specs.Kinds.{Shows}
+use Rattle.mask.proofs.Nexts.{next-some}
+use Rattle.words.specs.Bits.{bit, Low}
+use Rattle.words.proofs.Bitwise.{bit-none}
 
 length-indices : (i : ℕ) (bs : List Bool) → length (indices i bs) ≡ count bs
 unfolding indices count
@@ -129,3 +134,110 @@ module _ {T : Type 0} (place : T → ℕ) (bs : List Bool) (start : ℕ) (old : 
         answers = ok-at e ∙ sym (cond-true (leb (count bs) (length old - start)) _ _ b) ∙ sym (cond-true (leb n limit) _ _ a);
         puts = subst (λ (k : ℕ). Put limit place bs start old filled new (Ok k)) (sym e) whole;
       }
+
+-- ---- word by word
+
+and-true : (x : Bool) → (x && true) ≡ x
+and-true true = refl
+and-true false = refl
+
+step-over : (bs : List Bool) (f : ℕ) → f < length bs → getD bs f false ≡ false → indices f (drop f bs) ≡ indices (f + 1) (drop (f + 1) bs)
+unfolding indices
+step-over bs f l e = ap (λ (x : List Bool). indices f x) (drop-more bs f false l) ∙ ap (λ (x : Bool). indices f (x ∷ drop (f + 1) bs)) e
+
+pub past-end : (bs : List Bool) (f : ℕ) → length bs ≤ f → indices f (drop f bs) ≡ []
+unfolding indices
+past-end bs f l = ap (λ (x : List Bool). indices f x) (drop-all f bs l)
+
+-- no member between two numbers: what is left to come is the same
+pub skip : (bs : List Bool) (f d : ℕ) → ((i : ℕ) → f ≤ i → i < f + d → getD bs i false ≡ false) → indices f (drop f bs) ≡ indices (f + d) (drop (f + d) bs)
+skip bs f zero h = let e : f ≡ f + 0 = omega arith in ap (λ (x : ℕ). indices x (drop x bs)) e
+skip bs f (suc d) h =
+    let e : f + 1 + d ≡ f + suc d = omega arith in
+    elim (cases-lt f (length bs)) [
+      | inl l ↦ step-over bs f l (h f (omega arith) (omega arith)) ∙ skip bs (f + 1) d (λ i a b. h i (omega arith) (omega arith)) ∙ ap (λ (x : ℕ). indices x (drop x bs)) e
+      | inr l ↦ past-end bs f l ∙ sym (past-end bs (f + suc d) (omega arith))
+    ]
+
+module _ {T : Type 0} (place : T → ℕ) (bs : List Bool) (start : ℕ) (old : List T) where
+  -- the members below an index of word k are put, and the bits of rest are those of the word from there on
+  pub record Within (filled : ℕ) (new : List T) (k rest : ℕ) : Type 0 where
+    pub next : ℕ
+    pub low : 64 * k ≤ next
+    pub high : next ≤ 64 * k + 64
+    pub partly : Partly place bs start old filled new next
+    pub bits : (b : ℕ) → b < 64 → bit rest b ≡ (getD bs (64 * k + b) false && leb next (64 * k + b))
+
+  pub within-none : (filled : ℕ) (new : List T) (k word : ℕ) → Shows bs k word → Partly place bs start old filled new (64 * k) → Within filled new k word
+  within-none filled new k word shows p = record {
+    next = 64 * k;
+    low = omega arith;
+    high = omega arith;
+    partly = p;
+    bits = λ b h. shows b h ∙ sym (ap (λ x. getD bs (64 * k + b) false && x) (le-leb (64 * k) (64 * k + b) (omega arith)) ∙ and-true (getD bs (64 * k + b) false));
+  }
+
+  module _ (filled : ℕ) (new : List T) (k rest t : ℕ) (w : Within filled new k rest) (few : t < 64) (low : Low rest t) where
+    parts : (getD bs (64 * k + t) false ≡ true) × (leb (w .next) (64 * k + t) ≡ true)
+    parts = and-parts (getD bs (64 * k + t) false) (leb (w .next) (64 * k + t)) (sym (w .bits t few) ∙ low .set)
+
+    from-next : w .next ≤ 64 * k + t
+    from-next = leb-true (w .next) (64 * k + t) (parts .1)
+
+    none-between : (j : ℕ) → w .next ≤ j → j < 64 * k + t → getD bs j false ≡ false
+    none-between j a b =
+        let e : 64 * k + (j - 64 * k) ≡ j = omega (arith, w .low) in
+        let i : j - 64 * k < 64 = omega (arith, w .low) in
+        let z = sym (w .bits (j - 64 * k) i) ∙ low .below (j - 64 * k) (omega (arith, w .low)) in
+        let o : leb (w .next) (64 * k + (j - 64 * k)) ≡ true = le-leb (w .next) (64 * k + (j - 64 * k)) (omega (arith, e)) in
+        ap (λ (x : ℕ). getD bs x false) (sym e) ∙ sym (ap (λ x. getD bs (64 * k + (j - 64 * k)) false && x) o ∙ and-true (getD bs (64 * k + (j - 64 * k)) false)) ∙ z
+
+    pub within-found : Found bs (w .next) (64 * k + t)
+    within-found = found bs (w .next) (64 * k + t) (next-some bs (w .next) (64 * k + t) from-next (parts .0) none-between)
+
+    -- the bit that was put is taken out
+    pub within-more : (v : T) (rest′ : ℕ) → place v ≡ 64 * k + t → ((b : ℕ) → b < 64 → bit rest′ b ≡ cond (eqb b t) false (bit rest b)) → Within (filled + 1) (set new filled v) k rest′
+    within-more v rest′ e gone = record {
+      next = 64 * k + t + 1;
+      low = omega arith;
+      high = omega arith;
+      partly = partly-more place bs start old filled new (w .next) (64 * k + t) v within-found e (w .partly);
+      bits = λ b h. gone b h ∙ taken b h;
+    }
+      where
+        taken : (b : ℕ) → b < 64 → cond (eqb b t) false (bit rest b) ≡ (getD bs (64 * k + b) false && leb (64 * k + t + 1) (64 * k + b))
+        taken b h = elim (cases-order b t) [
+          | inl q ↦ ap (λ x. cond x false (bit rest b)) (eq-eqb b t q) ∙ sym (and-right (getD bs (64 * k + b) false) (leb (64 * k + t + 1) (64 * k + b)) (lt-leb (64 * k + t + 1) (64 * k + b) (omega arith)))
+          | inr o ↦ elim o [
+            | inl q ↦ ap (λ x. cond x false (bit rest b)) (ne-eqb b t (λ z. omega arith)) ∙ low .below b q ∙ sym (and-right (getD bs (64 * k + b) false) (leb (64 * k + t + 1) (64 * k + b)) (lt-leb (64 * k + t + 1) (64 * k + b) (omega arith)))
+            | inr q ↦ ap (λ x. cond x false (bit rest b)) (ne-eqb b t (λ z. omega arith)) ∙ w .bits b h
+                ∙ ap (λ x. getD bs (64 * k + b) false && x) (le-leb (w .next) (64 * k + b) (omega (arith, from-next)) ∙ sym (le-leb (64 * k + t + 1) (64 * k + b) (omega arith)))
+          ]
+        ]
+
+  -- a word with nothing left to put
+  pub within-all : (filled : ℕ) (new : List T) (k rest : ℕ) → rest ≡ 0 → Within filled new k rest → Partly place bs start old filled new (64 * (k + 1))
+  within-all filled new k rest z w =
+      let d : ℕ = 64 * k + 64 - w .next in
+      let e : w .next + d ≡ 64 * (k + 1) = omega (arith, w .high) in
+      let same : indices (w .next) (drop (w .next) bs) ≡ indices (64 * (k + 1)) (drop (64 * (k + 1)) bs) = skip bs (w .next) d (λ i a b. none i a (omega (arith, w .high))) ∙ ap (λ (x : ℕ). indices x (drop x bs)) e in
+      let p = w .partly in
+      record {
+        put = p .put;
+        at = p .at;
+        long = p .long;
+        front = p .front;
+        back = p .back;
+        room = omega (arith, p .room, ap length same);
+        given = ap (λ (x : List ℕ). map place (take (p .put) (drop start new)) ++ x) (sym same) ∙ p .given;
+      }
+    where
+      none : (i : ℕ) → w .next ≤ i → i < 64 * k + 64 → getD bs i false ≡ false
+      none i a b =
+          let e : 64 * k + (i - 64 * k) ≡ i = omega (arith, w .low) in
+          let q : i - 64 * k < 64 = omega (arith, w .low) in
+          let o : leb (w .next) (64 * k + (i - 64 * k)) ≡ true = le-leb (w .next) (64 * k + (i - 64 * k)) (omega (arith, e)) in
+          ap (λ (x : ℕ). getD bs x false) (sym e) ∙ sym (ap (λ x. getD bs (64 * k + (i - 64 * k)) false && x) o ∙ and-true (getD bs (64 * k + (i - 64 * k)) false)) ∙ sym (w .bits (i - 64 * k) q) ∙ ap (λ x. bit x (i - 64 * k)) z ∙ bit-none (i - 64 * k)
+
+  pub within-at : {filled filled′ : ℕ} {new new′ : List T} (k rest : ℕ) → filled′ ≡ filled → new′ ≡ new → Within filled new k rest → Within filled′ new′ k rest
+  within-at {filled} {filled′} {new} {new′} k rest e d w = subst (λ (x : ℕ). Within x new′ k rest) (sym e) (subst (λ (y : List T). Within filled y k rest) (sym d) w)

@@ -3,21 +3,26 @@
 --   Kept       domain, rule and the memory past the mask's own are as they were
 --   Made       a mask made of handed-over memory, or the memory back where it is too little
 --   Ended      the memory that a mask gives back
+--   Shows      a word's bits are the members from 64 × k on
 --   Tells      a flag says whether something is so
 use mathlib.Core.Bool.{Bool, true, false}
 use mathlib.Core.List.{List}
 use mathlib.Core.Path.{_≡_}
-use Prim.Native.Nat.{ℕ}
-use lib.ListN.{replicate}
+use Prim.Native.Nat.{ℕ, _+_, _*_, _<_}
+use lib.ListN.{getD, replicate}
 use Rattle.std.specs.declared.result.Result.{Result}
 use Rattle.std.specs.declared.result.Result.the-variants.{Ok, Err}
 use Rattle.index.specs.declared.refusal.Refusal.the-variants.{Memory}
 use Rattle.mask.specs.declared.kind.Refused.{Refused}
+use Rattle.words.specs.Bits.{bit}
 use Rattle.mask.specs.Machine.{Move, Report, Rule, step}
 
 abbrev pub Tells : Bool → Type 0 → Type 0
 Tells true P = P
 Tells false P = P → ⊥
+
+abbrev pub Shows : List Bool → ℕ → ℕ → Type 0
+Shows bs k word = (b : ℕ) → b < 64 → bit word b ≡ getD bs (64 * k + b) false
 
 module _ {M : Type 0} (domain : M → ℕ) (rule : M → Rule) where
   abbrev pub Answered : (M → List Bool) → M → Move → Report → M → Type 0

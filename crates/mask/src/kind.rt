@@ -5,7 +5,7 @@ ghost use mathlib.Core.Bool.{Bool, true, false};
 ghost use mathlib.Core.List.{List};
 ghost use mathlib.Core.Path.{_≡_};
 ghost use Prim.Native.Nat.{ℕ};
-ghost use Rattle.mask.specs.Kinds.{Answered, Kept, Made, Ended, Tells};
+ghost use Rattle.mask.specs.Kinds.{Answered, Kept, Made, Ended, Shows, Tells};
 ghost use Rattle.mask.specs.Machine.{insert, remove, clear, insert-all, combine, contained, count, next-member};
 ghost use Rattle.std.specs.declared.result.Result.the-variants.{Ok};
 ghost use Rattle.words.specs.Tables.{or-table, and-table, second-table, subtract-table, union-not-table};
@@ -20,6 +20,7 @@ use words::Or;
 use words::OrOperator;
 use words::Second;
 use words::SecondOperator;
+use words::Word;
 
 // A refusal at creation, with the memory as it was handed over.
 #[derive(Drop)]
@@ -89,6 +90,10 @@ pub trait Mask: Sized {
     // The lowest member at or after a number, or nothing.
     fn next_member(&self, from: usize) -> Option<usize>
         ensures { λ r. ⌜ r ≡ next-member (members (now (self .entry))) from ⌝ };
+
+    // The members from 64 × k on as the bits of a word, which is how a listing reads them.
+    fn member_word(&self, k: usize) -> Word
+        ensures { λ r. ⌜ Shows (members (now (self .entry))) k r ⌝ };
 
     // Whether the two masks have equal pictures, so equal domains and members.
     fn same_picture(&self, other: &Self) -> bool

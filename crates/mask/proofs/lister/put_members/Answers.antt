@@ -1,46 +1,47 @@
--- Each turn puts the lowest member not yet put, until none is left.
-use mathlib.Core.Path.{_≡_, sym, ap, _∙_, subst}
-use mathlib.Core.Bool.{Bool, true}
+-- Each turn puts the lowest member of the word that is not put yet, until the word has none left.
+use mathlib.Core.Bool.{Bool}
 use mathlib.Core.List.{List}
-use Prim.Native.Nat.{ℕ, _+_, _-_, _≤_, _<_}
+use mathlib.Core.Path.{_≡_, sym, ap, _∙_}
+use Prim.Native.Nat.{ℕ, _+_, _*_, _<_}
 use native.Mathlib.Omega.{arith}
-use borrow.Author.Needs.{needs}
-use lib.Dec.{leb}
 use lib.ListN.{length}
-use Rattle.std.proofs.shelf.Tests.{leb-true}
-use Rattle.std.specs.declared.result.Result.the-variants.{Ok}
-use Rattle.mask.specs.Machine.{count}
-use Rattle.mask.proofs.Listing.{Partly, partly-none, partly-more, Found, found, none-left, partly-at, put-all}
+use Rattle.mask.proofs.Listing.{Partly, partly-none, Found, Within, within-found, within-more, within-all, within-at, past-end, put-all}
+use Rattle.mask.proofs.lister.put_members.Given as given
 use Rattle.mask.proofs.lister.put_members.Needs as need
-use Rattle.mask.proofs.lister.put_members.Needs.{in-Some-new, in-rest-new}
+use Rattle.mask.proofs.lister.put_members.Needs.{in-Some, in-rest}
 
-pub loop-i-holds : need.loop-i-holds
-loop-i-holds g c = partly-none _ _ _ _ (omega (arith, c .pre .room, c .args .out .now .ok))
+pub loop-k-holds : need.loop-k-holds
+loop-k-holds g c = partly-none _ _ _ _ (omega (arith, c .pre .room, c .args .out .now .ok))
 
-pub add-from : need.add-from
-add-from g c =
-    let f = found _ _ _ (sym (c .next-member .ensures) ∙ c .in-Some .is) in
-    omega (arith, f .high, g .M·Mask·met .long (c .args .mask .now), c .pre .covered, g .T·Idx·met .small)
+pub push-requires : need.push-requires
+push-requires g c κs =
+    let w = c .loop-rest .inv (c .args .out .now .filled) (c .args .out .now .places .now) (c .loop-k .inv) in
+    let f = within-found (g .T·Idx .place) _ _ _ _ _ (c .loop-k .k) (c .loop-rest .rest) (c .lowest-bit-bit .result) w (c .lowest-bit-bit .ensures .0) (c .lowest-bit-bit .ensures .1) in
+    omega (arith, w .partly .room, w .partly .long, ap length (f .splits))
 
-pub loop-i-less : need.loop-i-less
-loop-i-less g c =
-    let f = found _ _ _ (sym (c .next-member .ensures) ∙ c .in-Some .is) in
-    omega (arith, f .high, f .low, g .M·Mask·met .long (c .args .mask .now))
-
-pub loop-i-again : need.loop-i-again
-loop-i-again g c =
+pub loop-rest-again : need.loop-rest-again
+loop-rest-again g c start old p =
     let bs : List Bool = g .M·Mask .members (c .args .mask .now) in
-    let f : Found bs (c .loop-i .from) (c .in-Some .i) = found _ _ _ (sym (c .next-member .ensures) ∙ c .in-Some .is) in
+    let w = c .loop-rest .inv start old p in
+    let t = c .lowest-bit-bit .result in
+    let few = c .lowest-bit-bit .ensures .0 in
+    let low = c .lowest-bit-bit .ensures .1 in
     elim (c .match-new .came) [
-      | in-Some-new w ↦
-          partly-at (g .T·Idx .place) bs (c .args .out .now .filled) (c .args .out .now .places .now) (c .in-Some .i + 1)
-          (ap (λ x. x .filled) (w .out-is) ∙ w .push .ensures .filled) (ap (λ x. x .places .now) (w .out-is) ∙ w .push .ensures .places)
-          (partly-more (g .T·Idx .place) bs (c .args .out .now .filled) (c .args .out .now .places .now) (c .loop-i .out .filled) (c .loop-i .out .places .now) (c .loop-i .from) (c .in-Some .i) (w .in-Some-new .v) f (w .in-Some-new .ensures tt .1) (c .loop-i .inv))
-      | in-rest-new w ↦ absurd (omega (arith, f .high, g .M·Mask·met .long (c .args .mask .now), c .pre .covered, w .in-rest-new .ensures tt))
+      | in-Some v ↦
+          within-at (g .T·Idx .place) bs start old (c .loop-k .k) (c .without-bit-rest .result)
+          (ap (λ x. x .filled) (v .out-is) ∙ v .push .ensures .filled) (ap (λ x. x .places .now) (v .out-is) ∙ v .push .ensures .places)
+          (within-more (g .T·Idx .place) bs start old (c .loop-rest .out .filled) (c .loop-rest .out .places .now) (c .loop-k .k) (c .loop-rest .rest) t w few low (v .in-Some .v) (c .without-bit-rest .result) (v .in-Some .ensures tt .1) (c .without-bit-rest .ensures .bits))
+      | in-rest v ↦
+          (let f = within-found (g .T·Idx .place) bs start old (c .loop-rest .out .filled) (c .loop-rest .out .places .now) (c .loop-k .k) (c .loop-rest .rest) t w few low in
+          absurd (omega (arith, f .high, g .M·Mask·met .long (c .args .mask .now), c .pre .covered, v .in-rest .ensures tt)))
     ]
+
+pub loop-k-again : need.loop-k-again
+loop-k-again g c =
+    within-all (g .T·Idx .place) _ _ _ _ _ (c .loop-k .k) (c .loop-rest .rest) (c .loop-rest-test .left) (c .loop-rest .inv (c .args .out .now .filled) (c .args .out .now .places .now) (c .loop-k .inv))
 
 pub returns : need.returns
 returns g c =
     let bs : List Bool = g .M·Mask .members (c .args .mask .now) in
-    put-all (g .T·Idx .place) bs (c .args .out .now .filled) (c .args .out .now .places .now) (c .loop-i .out .filled) (c .loop-i .out .places .now) (c .loop-i .from)
-    (none-left bs (c .loop-i .from) (sym (c .next-member .ensures) ∙ c .in-rest .is)) (c .loop-i .inv)
+    put-all (g .T·Idx .place) bs (c .args .out .now .filled) (c .args .out .now .places .now) (c .loop-k .out .filled) (c .loop-k .out .places .now) (64 * c .loop-k .k)
+    (past-end bs (64 * c .loop-k .k) (omega (arith, g .M·Mask·met .long (c .args .mask .now), c .num-words-k-end .ensures, c .domain-size .ensures))) (c .loop-k .inv)
