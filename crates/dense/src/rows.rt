@@ -25,7 +25,7 @@ use words::word_index_and_mask;
 use words::would_modify_words;
 
 // Whether the index's bit is set.
-pub fn has_bit(words: &[Word], index: usize) -> bool
+pub(crate) fn has_bit(words: &[Word], index: usize) -> bool
     requires { ⌜ index / 64 < length (now words) ⌝ }
     ensures { λ r. ⌜ r ≡ holds (now (words .entry)) index ⌝ }
 {
@@ -34,7 +34,7 @@ pub fn has_bit(words: &[Word], index: usize) -> bool
 }
 
 // Writes the index's bit, and answers whether that turned it.
-pub fn write_bit(words: &mut [Word], index: usize, on: bool) -> bool
+pub(crate) fn write_bit(words: &mut [Word], index: usize, on: bool) -> bool
     requires { ⌜ index / 64 < length (now words) ⌝ }
     ensures row { λ _. ⌜ Rewritten (put (now (words .entry)) index on) (now (words .entry)) (now (words .exit)) ⌝ }
     ensures value { λ r. ⌜ r ≡ cond on (not (holds (now (words .entry)) index)) (holds (now (words .entry)) index) ⌝ }
@@ -51,7 +51,7 @@ pub fn write_bit(words: &mut [Word], index: usize, on: bool) -> bool
 }
 
 // The report of a call that turned one bit on or off, or none.
-pub fn report_one(turned: bool, on: bool) -> (usize, usize)
+pub(crate) fn report_one(turned: bool, on: bool) -> (usize, usize)
     ensures came { λ r. ⌜ r .0 ≡ cond on (one turned) 0 ⌝ }
     ensures went { λ r. ⌜ r .1 ≡ cond on 0 (one turned) ⌝ }
 {
@@ -63,7 +63,7 @@ pub fn report_one(turned: bool, on: bool) -> (usize, usize)
 }
 
 // The bits of word `j` that stand below `domain`.
-pub fn mask_at(domain: usize, j: usize) -> Word
+pub(crate) fn mask_at(domain: usize, j: usize) -> Word
     requires { ⌜ 64 * j < domain ⌝ }
     ensures { λ r. ⌜ ((k : ℕ) → k < 64 → bit r k ≡ ltb (64 * j + k) domain) ⌝ }
 {
@@ -76,7 +76,7 @@ pub fn mask_at(domain: usize, j: usize) -> Word
 }
 
 // How many bits come and how many go from `old` to `new`.
-pub fn turned(old: Word, new: Word) -> (usize, usize)
+pub(crate) fn turned(old: Word, new: Word) -> (usize, usize)
     ensures came { λ r. ⌜ r .0 ≡ tally (λ k. enters (bit old k) (bit new k)) 0 64 ⌝ }
     ensures went { λ r. ⌜ r .1 ≡ tally (λ k. enters (bit new k) (bit old k)) 0 64 ⌝ }
 {
@@ -87,7 +87,7 @@ pub fn turned(old: Word, new: Word) -> (usize, usize)
 }
 
 // Sets or clears every bit of the row below `domain`, and answers how many came and how many went.
-pub fn fill_row(own: &mut [Word], domain: usize, on: bool) -> (usize, usize)
+pub(crate) fn fill_row(own: &mut [Word], domain: usize, on: bool) -> (usize, usize)
     requires enough { ⌜ words-for domain ≤ length (now own) ⌝ }
     requires clean { ⌜ Clean domain (now own) ⌝ }
     ensures { λ r. ⌜ Becomes (λ _. on) domain (now (own .entry)) (now (own .exit)) r ⌝ }
@@ -108,7 +108,7 @@ pub fn fill_row(own: &mut [Word], domain: usize, on: bool) -> (usize, usize)
 }
 
 // Combines the row with another, over `domain` bits, and answers how many came and how many went.
-pub fn combine_row<O: Operator>(
+pub(crate) fn combine_row<O: Operator>(
     op: &O,
     own: &mut [Word],
     other: &[Word],
@@ -142,7 +142,7 @@ fn lowest_bit(word: Word) -> usize
 }
 
 // The lowest set bit at or after `from`. So many words are as many as a domain can take.
-pub fn next_set(words: &[Word], from: usize) -> Option<usize>
+pub(crate) fn next_set(words: &[Word], from: usize) -> Option<usize>
     requires { ⌜ length (now words) ≤ 2 ^ 58 ⌝ }
     ensures { λ r. ⌜ Lowest (holds (now (words .entry))) from (64 * length (now (words .entry))) r ⌝ }
 {
@@ -165,14 +165,14 @@ pub fn next_set(words: &[Word], from: usize) -> Option<usize>
 }
 
 // Whether two rows are the same words.
-pub fn same_words(lhs: &[Word], rhs: &[Word]) -> bool
+pub(crate) fn same_words(lhs: &[Word], rhs: &[Word]) -> bool
     ensures { λ r. ⌜ Tells r (now (lhs .entry) ≡ now (rhs .entry)) ⌝ }
 {
     lhs.len() == rhs.len() && !would_modify_words(lhs, rhs, &Second)
 }
 
 // Clears the first `n` words.
-pub fn clear_words(words: &mut Vec<Word>, n: usize)
+pub(crate) fn clear_words(words: &mut Vec<Word>, n: usize)
     requires { ⌜ n ≤ vec-len (now words) ⌝ }
     ensures len { λ _. ⌜ vec-len (now (words .exit)) ≡ vec-len (now (words .entry)) ⌝ }
     ensures items { λ _. ⌜ vec-items (now (words .exit)) ≡ replicate n 0 ++ drop n (vec-items (now (words .entry))) ⌝ }

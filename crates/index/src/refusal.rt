@@ -12,7 +12,7 @@ pub enum Refusal {
     Index(usize),
     // 2: the domains of the two masks differ, own first.
     Domains(usize, usize),
-    // 3: the range ends at or past the domain, or has no end or start that a number can name.
+    // 3: the range ends at or past the domain, is unbounded on domain 0, or starts past 2^64 - 1.
     Range,
     // 4: too few words or records were handed over at creation.
     Memory,
