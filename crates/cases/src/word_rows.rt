@@ -19,6 +19,7 @@ use words::count_ones;
 use words::has_changed;
 use words::insert;
 use words::max_bit;
+use words::min_bit;
 use words::num_words;
 use words::remove;
 use words::update_words;
@@ -47,15 +48,15 @@ fn words_that_hold_so_many_bits() -> Result<(), Fail> {
 }
 
 #[test]
-fn the_highest_bit() -> Result<(), Fail> {
-    for (word, highest) in [
-        (0, None),
-        (1, Some(0)),
-        (2, Some(1)),
-        (3, Some(1)),
-        (1 << 63, Some(63)),
-        (ALL, Some(63)),
+fn the_lowest_and_the_highest_bit() -> Result<(), Fail> {
+    for (word, lowest, highest) in [
+        (0, None, None),
+        (1, Some(0), Some(0)),
+        (6, Some(1), Some(2)),
+        (1 << 63, Some(63), Some(63)),
+        (ALL, Some(0), Some(63)),
     ] {
+        check_eq(min_bit(word), lowest)?;
         check_eq(max_bit(word), highest)?;
     }
     Ok(())

@@ -7,7 +7,7 @@ ghost use mathlib.Core.Path.{_≡_};
 ghost use Prim.Native.Nat.{ℕ, _+_, _*_, _/_, _^_, _<_, _≤_};
 ghost use Rattle.dense.specs.Members.{Becomes, Fit, Clean, Lowest};
 ghost use Rattle.std.specs.Of.Vec.{vec-items, vec-len};
-ghost use Rattle.words.specs.Bits.{bit, holds, one, tally, words-for, Low};
+ghost use Rattle.words.specs.Bits.{bit, holds, one, tally, words-for};
 ghost use Rattle.words.specs.Rows.{Rewritten, put, enters};
 ghost use Rattle.words.specs.Tables.{look};
 ghost use Rattle.mask.specs.Kinds.{Tells};
@@ -18,6 +18,7 @@ use words::SecondOperator;
 use words::WORD_BITS;
 use words::Word;
 use words::insert;
+use words::min_bit;
 use words::num_words;
 use words::remove;
 use words::update_words;
@@ -133,14 +134,6 @@ pub(crate) fn combine_row<O: Operator>(
     (entered + came, left + went)
 }
 
-// The lowest set bit of a word that has one.
-fn lowest_bit(word: Word) -> usize
-    requires { ⌜ 0 < word ⌝ }
-    ensures { λ r. ⌜ (r < 64) × Low word r ⌝ }
-{
-    word.trailing_zeros() as usize
-}
-
 // The lowest set bit at or after `from`. So many words are as many as a domain can take.
 pub(crate) fn next_set(words: &[Word], from: usize) -> Option<usize>
     requires { ⌜ length (now words) ≤ 2 ^ 58 ⌝ }
@@ -152,13 +145,12 @@ pub(crate) fn next_set(words: &[Word], from: usize) -> Option<usize>
     }
     // Mask out all bits below `from`.
     let first = words[start] & !(mask - 1);
-    if first != 0 {
-        return Some(WORD_BITS * start + lowest_bit(first));
+    if let Some(bit) = min_bit(first) {
+        return Some(WORD_BITS * start + bit);
     }
     for k in start + 1..words.len() {
-        let word = words[k];
-        if word != 0 {
-            return Some(WORD_BITS * k + lowest_bit(word));
+        if let Some(bit) = min_bit(words[k]) {
+            return Some(WORD_BITS * k + bit);
         }
     }
     None

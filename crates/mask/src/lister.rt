@@ -7,7 +7,7 @@ ghost use Prim.Native.Nat.{ℕ, _-_, _<_, _≤_};
 ghost use Rattle.mask.specs.Machine.{count};
 ghost use Rattle.mask.specs.Successions.{Listed, Put};
 ghost use Rattle.std.specs.declared.result.Result.the-variants.{Ok};
-ghost use Rattle.words.specs.Bits.{bit, Low};
+ghost use Rattle.words.specs.Bits.{bit};
 use crate::collector::Collector;
 use crate::kind::Mask;
 use index::Idx;
@@ -15,15 +15,8 @@ use index::Refusal;
 use index::UsizeIdx;
 use words::WORD_BITS;
 use words::Word;
+use words::min_bit;
 use words::num_words;
-
-// The lowest set bit of a word that has one.
-fn lowest_bit(word: Word) -> usize
-    requires { ⌜ 0 < word ⌝ }
-    ensures { λ r. ⌜ (r < 64) × Low word r ⌝ }
-{
-    word.trailing_zeros() as usize
-}
 
 // The word with one bit that was set taken out.
 fn without_bit(word: Word, k: usize) -> Word
@@ -42,8 +35,7 @@ fn put_members<M: Mask, T: Idx>(mask: &M, out: &mut Collector<'_, T>)
 {
     for k in 0..num_words(mask.domain_size()) {
         let mut rest = mask.member_word(k);
-        while rest != 0 {
-            let bit = lowest_bit(rest);
+        while let Some(bit) = min_bit(rest) {
             if let Some(v) = T::new(WORD_BITS * k + bit) {
                 out.push(v);
             }

@@ -5,7 +5,8 @@
 --   tally       how many of n indices from a on pass a test
 --   set-bits    how many bits of a row are set
 --   Highest     the highest set bit of a word, or nothing where no bit is set
---   Low         the lowest set bit of a word
+--   Low         a bit that is set, with none set below it
+--   Least       the lowest set bit of a word, or nothing where no bit is set
 use mathlib.Core.Bool.{Bool, true, false}
 use mathlib.Core.List.{List}
 use mathlib.Core.Path.{_≡_}
@@ -43,3 +44,7 @@ Highest w (Some k) = (bit w k ≡ true) × ((j : ℕ) → k < j → bit w j ≡ 
 pub record Low (w t : ℕ) : Type 0 where
   pub set : bit w t ≡ true
   pub below : (j : ℕ) → j < t → bit w j ≡ false
+
+abbrev pub Least : ℕ → Option ℕ → Type 0
+Least w None = w ≡ 0
+Least w (Some t) = (t < 64) × Low w t

@@ -2,7 +2,7 @@
 ghost use mathlib.Core.Path.{_≡_};
 ghost use Prim.Native.Nat.{ℕ, _/_, _%_, _^_, _<_};
 ghost use Rattle.std.specs.declared.option.Option.the-variants.{Some};
-ghost use Rattle.words.specs.Bits.{words-for, set-bits, Highest};
+ghost use Rattle.words.specs.Bits.{words-for, set-bits, Highest, Least};
 use crate::WORD_BITS;
 use crate::Word;
 use index::Idx;
@@ -46,6 +46,24 @@ pub fn max_bit(word: Word) -> Option<usize>
         None
     } else {
         Some(highest_bit(word))
+    }
+}
+
+fn lowest_bit(word: Word) -> usize
+    requires { ⌜ 0 < word ⌝ }
+    ensures { λ r. ⌜ Least word (Some r) ⌝ }
+{
+    word.trailing_zeros() as usize
+}
+
+// The lowest set bit, or nothing where no bit is set.
+pub fn min_bit(word: Word) -> Option<usize>
+    ensures { λ r. ⌜ Least word r ⌝ }
+{
+    if word == 0 {
+        None
+    } else {
+        Some(lowest_bit(word))
     }
 }
 
