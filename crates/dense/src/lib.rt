@@ -1,4 +1,6 @@
 // Dense masks: a bit for each index, in words that are handed over.
+#![tactic(auto)]
+
 pub mod bit_set;
 mod edits;
 mod makes;

@@ -1,4 +1,6 @@
 // Refusals and index types: what every call of the mask library answers with, and what it is asked about.
+#![tactic(auto)]
+
 pub mod idx;
 pub mod refusal;
 pub mod sample;

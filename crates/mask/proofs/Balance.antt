@@ -1,10 +1,8 @@
 -- The members number what was there, plus all that entered, less all that left.
-use Rattle.std.proofs.Common.{◌≡◌, ℕ, zero, suc, ◌+◌, ◌<◌, ◌≤◌, Bool, true, false, cond, eqb, ltb, List, [], ◌∷◌, map, length, set, replicate, Ok, Err, sym, refl, ap, ◌∙◌, subst, ap₂, arith}
+use Rattle.std.proofs.Common.{◌≡◌, ℕ, zero, suc, ◌+◌, Bool, true, false, cond, eqb, ltb, List, [], ◌∷◌, length, replicate, Ok, Err, sym, refl, ◌∙◌, arith}
 use Rattle.std.proofs.lemmas.List.{length-set, length-replicate}
-use Rattle.std.proofs.lemmas.Bool.{eqb-true, cases_Bool}
-use Rattle.words.specs.Bits.{one}
-use Rattle.words.specs.Rows.{enters}
-use Rattle.mask.specs.Machine.{Move, insert, remove, clear, insert_all, combine, step, settle, run, Rule, Report, through, gained, count, entered, left, total}
+use Rattle.std.proofs.lemmas.Bool.{eqb-true}
+use Rattle.mask.specs.Machine.{Move, insert, remove, clear, insert_all, combine, step, run, Rule, Report, gained, count, entered, left, total}
 use Rattle.index.specs.declared.refusal.Refusal.{Refusal}
 use Rattle.mask.proofs.Decides.{length-through}
 

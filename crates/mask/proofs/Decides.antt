@@ -1,11 +1,11 @@
 -- One-bit trials decide whether two lists leave equal pictures.
-use Rattle.std.proofs.Common.{◌≡◌, ℕ, zero, suc, ◌+◌, ◌<◌, ◌≤◌, Bool, true, false, cond, eqb, List, [], ◌∷◌, map, length, get_or, replicate, is_ok, Ok, Err, sym, refl, ap, ◌∙◌, subst, ap₂, le_of_suc-le-suc, not-suc-le-zero, arith}
+use Rattle.std.proofs.Common.{◌≡◌, ℕ, zero, suc, ◌<◌, ◌≤◌, Bool, true, false, cond, eqb, List, [], ◌∷◌, map, length, get_or, replicate, is_ok, Ok, Err, sym, refl, ap, ◌∙◌, subst, le_of_suc-le-suc, not-suc-le-zero, arith}
 use mathlib.Core.Bool.{false≢true}
 use Rattle.std.proofs.lemmas.Bool.{eq-eqb, cond-true}
 use Rattle.std.proofs.lemmas.List.{length-replicate, get_or-replicate, ext_get_or}
 use Rattle.words.specs.declared.table.Table.{Table}
 use Rattle.words.specs.Tables.{look}
-use Rattle.mask.specs.Machine.{Move, insert, remove, clear, insert_all, combine, step, settle, run, Rule, Report, through, gained}
+use Rattle.mask.specs.Machine.{combine, step, settle, run, Rule, Report, through, gained}
 use Rattle.mask.specs.Trials.{Accepted, Plain, bit_after, trial, Agree, move, Leaves, SamePictures, TrialsDecide}
 use Rattle.mask.specs.declared.calls.Call.{Call}
 use Rattle.mask.specs.declared.calls.Call.TheVariants.{Insert, Remove, Clear, InsertAll, Combine}

@@ -1,11 +1,10 @@
 -- A loop that puts the members, one after another, into a collector's places.
-use Rattle.std.proofs.Common.{◌≡◌, ℕ, zero, suc, ◌+◌, ◌-◌, ◌*◌, ◌<◌, ◌≤◌, Bool, true, false, cond, ◌&&◌, eqb, leb, List, [], ◌∷◌, ◌++◌, map, length, get_or, take, drop, set, Some, None, Ok, Result, sym, refl, ap, ◌∙◌, subst, ap₂, inl, inr, append_assoc, arith}
+use Rattle.std.proofs.Common.{◌≡◌, ℕ, zero, suc, ◌+◌, ◌-◌, ◌*◌, ◌<◌, ◌≤◌, Bool, true, false, cond, ◌&&◌, eqb, leb, List, [], ◌∷◌, ◌++◌, map, length, get_or, take, drop, set, Some, None, Ok, Result, sym, refl, ap, ◌∙◌, subst, inl, inr, append_assoc, arith}
 use Rattle.std.proofs.lemmas.List.{length-set, take-set-le, drop-set-add, take_more_set, map_push, drop-drop, drop-set-lt, length-drop, append-nil, length-map, length-take-le, drop_more, drop_all}
-use Rattle.words.specs.Bits.{one}
 use Rattle.mask.specs.Machine.{indices, first, next_member, count}
-use Rattle.mask.specs.Successions.{Listed, Put, answer_of}
+use Rattle.mask.specs.Successions.{Listed, Put}
 use Rattle.index.specs.declared.refusal.Refusal.{Refusal}
-use Rattle.std.proofs.lemmas.Bool.{le_test, lt-leb, leb-true, eq-eqb, ne_eqb, cases_lt, cases_order, and_parts, and_right, cond-true}
+use Rattle.std.proofs.lemmas.Bool.{le-leb, lt-leb, leb-true, eq-eqb, ne_eqb, cases_lt, cases_order, and_parts, and_right, cond-true}
 use Rattle.mask.specs.Kinds.{Shows}
 use Rattle.mask.proofs.Nexts.{next_some}
 use Rattle.words.specs.Bits.{bit, Low}
@@ -117,8 +116,8 @@ module _ {T : Type 0} (place : T → ℕ) (bs : List Bool) (start : ℕ) (old : 
   pub listed_all : (limit n filled all : ℕ) (new : List T) (from : ℕ) → n ≤ limit → all ≡ count bs → all ≤ length old - start → indices from (drop from bs) ≡ [] → Partly place bs start old filled new from
       → Listed limit place n bs start old filled new (Ok all)
   listed_all limit n filled all new from covers e room none p =
-      let a : leb n limit ≡ true = le_test n limit covers in
-      let b : leb (count bs) (length old - start) ≡ true = le_test (count bs) (length old - start) (omega (arith, room, e)) in
+      let a : leb n limit ≡ true = le-leb n limit covers in
+      let b : leb (count bs) (length old - start) ≡ true = le-leb (count bs) (length old - start) (omega (arith, room, e)) in
       let whole = put_all filled new from none p in
       record {
         answers = ok_at e ∙ sym (cond-true (leb (count bs) (length old - start)) _ _ b) ∙ sym (cond-true (leb n limit) _ _ a);
@@ -164,7 +163,7 @@ module _ {T : Type 0} (place : T → ℕ) (bs : List Bool) (start : ℕ) (old : 
     low = omega arith;
     high = omega arith;
     partly = p;
-    bits = λ b h. shows b h ∙ sym (ap (λ x. get_or bs (64 * k + b) false && x) (le_test (64 * k) (64 * k + b) (omega arith)) ∙ both_true (get_or bs (64 * k + b) false));
+    bits = λ b h. shows b h ∙ sym (ap (λ x. get_or bs (64 * k + b) false && x) (le-leb (64 * k) (64 * k + b) (omega arith)) ∙ both_true (get_or bs (64 * k + b) false));
   }
 
   module _ (filled : ℕ) (new : List T) (k rest t : ℕ) (w : Within filled new k rest) (few : t < 64) (low : Low rest t) where
@@ -179,7 +178,7 @@ module _ {T : Type 0} (place : T → ℕ) (bs : List Bool) (start : ℕ) (old : 
         let e : 64 * k + (j - 64 * k) ≡ j = omega (arith, w.low) in
         let i : j - 64 * k < 64 = omega (arith, w.low) in
         let z = sym (w.bits (j - 64 * k) i) ∙ low.below (j - 64 * k) (omega (arith, w.low)) in
-        let o : leb w.next (64 * k + (j - 64 * k)) ≡ true = le_test w.next (64 * k + (j - 64 * k)) (omega (arith, e)) in
+        let o : leb w.next (64 * k + (j - 64 * k)) ≡ true = le-leb w.next (64 * k + (j - 64 * k)) (omega (arith, e)) in
         ap (λ (x : ℕ). get_or bs x false) (sym e) ∙ sym (ap (λ x. get_or bs (64 * k + (j - 64 * k)) false && x) o ∙ both_true (get_or bs (64 * k + (j - 64 * k)) false)) ∙ z
 
     pub within_found : Found bs w.next (64 * k + t)
@@ -201,7 +200,7 @@ module _ {T : Type 0} (place : T → ℕ) (bs : List Bool) (start : ℕ) (old : 
           | inr o ↦ elim o [
             | inl q ↦ ap (λ x. cond x false (bit rest b)) (ne_eqb b t (λ z. omega arith)) ∙ low.below b q ∙ sym (and_right (get_or bs (64 * k + b) false) (leb (64 * k + t + 1) (64 * k + b)) (lt-leb (64 * k + t + 1) (64 * k + b) (omega arith)))
             | inr q ↦ ap (λ x. cond x false (bit rest b)) (ne_eqb b t (λ z. omega arith)) ∙ w.bits b h
-                ∙ ap (λ x. get_or bs (64 * k + b) false && x) (le_test w.next (64 * k + b) (omega (arith, from_next)) ∙ sym (le_test (64 * k + t + 1) (64 * k + b) (omega arith)))
+                ∙ ap (λ x. get_or bs (64 * k + b) false && x) (le-leb w.next (64 * k + b) (omega (arith, from_next)) ∙ sym (le-leb (64 * k + t + 1) (64 * k + b) (omega arith)))
           ]
         ]
 
@@ -226,7 +225,7 @@ module _ {T : Type 0} (place : T → ℕ) (bs : List Bool) (start : ℕ) (old : 
       none i a b =
           let e : 64 * k + (i - 64 * k) ≡ i = omega (arith, w.low) in
           let q : i - 64 * k < 64 = omega (arith, w.low) in
-          let o : leb w.next (64 * k + (i - 64 * k)) ≡ true = le_test w.next (64 * k + (i - 64 * k)) (omega (arith, e)) in
+          let o : leb w.next (64 * k + (i - 64 * k)) ≡ true = le-leb w.next (64 * k + (i - 64 * k)) (omega (arith, e)) in
           ap (λ (x : ℕ). get_or bs x false) (sym e) ∙ sym (ap (λ x. get_or bs (64 * k + (i - 64 * k)) false && x) o ∙ both_true (get_or bs (64 * k + (i - 64 * k)) false)) ∙ sym (w.bits (i - 64 * k) q) ∙ ap (λ x. bit x (i - 64 * k)) z ∙ bit_none (i - 64 * k)
 
   pub within_at : {filled filled' : ℕ} {new new' : List T} (k rest : ℕ) → filled' ≡ filled → new' ≡ new → Within filled new k rest → Within filled' new' k rest

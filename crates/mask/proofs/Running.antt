@@ -1,5 +1,5 @@
 -- A loop that makes the calls of a list and collects their reports.
-use Rattle.std.proofs.Common.{◌≡◌, ℕ, suc, ◌+◌, ◌<◌, ◌≤◌, Bool, List, [], ◌∷◌, ◌++◌, map, length, get_or, take, drop, set, sym, refl, ap, ◌∙◌, subst, ap₂, append_assoc, arith}
+use Rattle.std.proofs.Common.{◌≡◌, ℕ, suc, ◌+◌, ◌<◌, ◌≤◌, Bool, List, [], ◌∷◌, ◌++◌, map, length, get_or, take, drop, set, sym, refl, ap, ◌∙◌, subst, append_assoc, arith}
 use Rattle.std.proofs.lemmas.List.{length-set, take-set-le, drop-set-add, take_more_set, drop-drop, drop-set-lt, length-drop, length_push, drop_more, drop_all, append-nil, get_or-map}
 use Rattle.mask.specs.Machine.{Move, clear, step, run, Rule, Report}
 use Rattle.mask.specs.Successions.{Appended, Ran}

@@ -1,7 +1,6 @@
 -- What the machine answers, case by case.
-use Rattle.std.proofs.Common.{◌≡◌, ℕ, zero, suc, ◌+◌, ◌<◌, ◌≤◌, Bool, true, false, cond, not, eqb, ltb, List, [], ◌∷◌, get_or, set, replicate, Ok, Err, Result, sym, refl, ap, ◌∙◌, ap₂, add-zero, zero-add}
+use Rattle.std.proofs.Common.{◌≡◌, ℕ, zero, suc, ◌+◌, ◌<◌, ◌≤◌, Bool, true, false, cond, not, List, [], ◌∷◌, get_or, set, replicate, Ok, Err, sym, refl, ap, ◌∙◌, ap₂, add-zero, zero-add}
 use Rattle.std.proofs.lemmas.Bool.{lt-ltb, le-ltb, eq-eqb, ne_eqb}
-use Rattle.index.specs.declared.refusal.Refusal.{Refusal}
 use Rattle.index.specs.declared.refusal.Refusal.TheVariants.{Index, Domains, Holding}
 use Rattle.words.specs.declared.table.Table.{Table}
 use Rattle.mask.specs.Machine.{Rule, Report, gained, through, settle, step, insert, remove, clear, insert_all, combine}

@@ -1,5 +1,5 @@
 -- What is true of a whole succession of calls on one mask from new.
-use Rattle.std.specs.Prelude.{◌≡◌, ℕ, ◌+◌, ◌-◌, ◌<◌, ◌≤◌, Bool, false, cond, List, ◌++◌, map, length, take, drop, replicate, Some, None, Ok, Err, Option, Result, nat_le, slice_index_or}
+use Rattle.std.specs.Prelude.{◌≡◌, ℕ, ◌+◌, ◌-◌, ◌≤◌, Bool, false, cond, List, map, length, take, drop, replicate, Some, None, Ok, Err, Option, Result, nat_le, slice_index_or}
 use Rattle.words.specs.declared.table.Table.{Table}
 use Rattle.mask.specs.Machine.{Rule, Report, run, count, indices, entered, left, total}
 use Rattle.mask.specs.Trials.{move, TrialsDecide}

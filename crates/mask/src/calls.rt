@@ -25,8 +25,8 @@ pub(crate) fn apply_call<M: Mask, T: Idx, O: Operator>(
     call: Call<T, O>,
 ) -> Result<(usize, usize), Refusal>
     requires { Named (length row.now) call }
-    ensures machine { (d : M) → (result, members mask.new) ≡ step (domain mask.old) (rule mask.old) (members mask.old) (move place table domain members rule (λ j. slice_index_or row.now j d) call) }
-    ensures kept { Kept domain rule spare mask.old mask.new }
+    ensures machine { (d : M) → (result, M.members mask.new) ≡ step (M.domain mask.old) (M.rule mask.old) (M.members mask.old) (move T.place O.table M.domain M.members M.rule (λ j. slice_index_or row.now j d) call) }
+    ensures kept { Kept M.domain M.rule M.spare mask.old mask.new }
 {
     match call {
         Call::Insert(i) => mask.insert(i),

@@ -53,7 +53,7 @@ pub trait Mask: Sized {
         ensures { result ≡ domain self.now };
 
     fn contains<T: Idx>(&self, elem: T) -> Result<bool, Refusal>
-        ensures { result ≡ contained (domain self.now) (members self.now) (place elem) };
+        ensures { result ≡ contained (domain self.now) (members self.now) (T.place elem) };
 
     fn count(&self) -> usize
         ensures { result ≡ count (members self.now) };
@@ -71,11 +71,11 @@ pub trait Mask: Sized {
         ensures { Tells result (picture self.now ≡ picture other.now) };
 
     fn insert<T: Idx>(&mut self, elem: T) -> Result<(usize, usize), Refusal>
-        ensures machine { Answered domain rule members self.old (insert (place elem)) result self.new }
+        ensures machine { Answered domain rule members self.old (insert (T.place elem)) result self.new }
         ensures kept { Kept domain rule spare self.old self.new };
 
     fn remove<T: Idx>(&mut self, elem: T) -> Result<(usize, usize), Refusal>
-        ensures machine { Answered domain rule members self.old (remove (place elem)) result self.new }
+        ensures machine { Answered domain rule members self.old (remove (T.place elem)) result self.new }
         ensures kept { Kept domain rule spare self.old self.new };
 
     fn clear(&mut self) -> (usize, usize)
@@ -88,7 +88,7 @@ pub trait Mask: Sized {
 
     // Makes each index a member exactly when the operator's table has 1 for (it was one, it is one of `other`).
     fn combine<O: Operator>(&mut self, op: &O, other: &Self) -> Result<(usize, usize), Refusal>
-        ensures machine { Answered domain rule members self.old (combine (table op.now) (domain other.now) (members other.now)) result self.new }
+        ensures machine { Answered domain rule members self.old (combine (O.table op.now) (domain other.now) (members other.now)) result self.new }
         ensures kept { Kept domain rule spare self.old self.new };
 
     fn is_empty(&self) -> bool

@@ -1,4 +1,6 @@
 // Masks by their meaning: what every kind of mask is, what its calls answer, and what is true of any succession of them.
+#![tactic(auto)]
+
 pub mod calls;
 pub mod collector;
 pub mod kind;

@@ -20,9 +20,9 @@ fn without_bit(word: Word, k: usize) -> Word
 
 // Puts one value for each member, rising, into the next places, where type and places suffice.
 fn put_members<M: Mask, T: Idx>(mask: &M, out: &mut Collector<'_, T>)
-    requires covered { domain mask.now ≤ limit }
-    requires room { count (members mask.now) ≤ length out.old.places.now - out.old.filled }
-    ensures { Put limit place (members mask.now) out.old.filled out.old.places.now out.new.filled out.new.places.now (Ok (count (members mask.now))) }
+    requires covered { M.domain mask.now ≤ T.limit }
+    requires room { count (M.members mask.now) ≤ length out.old.places.now - out.old.filled }
+    ensures { Put T.limit T.place (M.members mask.now) out.old.filled out.old.places.now out.new.filled out.new.places.now (Ok (count (M.members mask.now))) }
 {
     for k in 0..num_words(mask.domain_size()) {
         let mut rest = mask.member_word(k);
@@ -37,7 +37,7 @@ fn put_members<M: Mask, T: Idx>(mask: &M, out: &mut Collector<'_, T>)
 
 // Lists the members, rising, into the next places of the collector, and answers how many they are.
 pub fn list<M: Mask, T: Idx>(mask: &M, out: &mut Collector<'_, T>) -> Result<usize, Refusal>
-    ensures { Listed limit place (domain mask.now) (members mask.now) out.old.filled out.old.places.now out.new.filled out.new.places.now result }
+    ensures { Listed T.limit T.place (M.domain mask.now) (M.members mask.now) out.old.filled out.old.places.now out.new.filled out.new.places.now result }
 {
     if !T::covers(mask.domain_size()) {
         return Err(Refusal::Limit);

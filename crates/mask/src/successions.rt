@@ -1,5 +1,5 @@
 // A succession of calls on one mask from new, and what it leaves.
-ghost use Rattle.std.specs.Prelude.{◌≡◌, ℕ, ◌+◌, ◌-◌, ◌<◌, ◌≤◌, true, List, map, length, get_or, None, MatchResult, slice_index_or};
+ghost use Rattle.std.specs.Prelude.{◌≡◌, ℕ, ◌+◌, ◌-◌, ◌<◌, ◌≤◌, true, List, map, length, None, MatchResult, slice_index_or};
 ghost use Rattle.mask.specs.declared.calls.Call.{Call as Called};
 ghost use Rattle.mask.specs.Kinds.{Kept, Made};
 ghost use Rattle.mask.specs.Machine.{Report, run};
@@ -21,8 +21,8 @@ fn run_calls<M: Mask, T: Idx, O: Operator>(
     reports: &mut Collector<'_, Result<(usize, usize), Refusal>>,
 )
     requires { (((k : ℕ) (c : Called T O) → k < length calls.now → Named (length row.now) (slice_index_or calls.now k c))) × (reports.old.filled + length calls.now ≤ length reports.old.places.now) }
-    ensures machine { (d : M) → Ran (run (domain mask.old) (rule mask.old) (members mask.old) (map (move place table domain members rule (λ j. get_or row.now j d)) calls.now)) (members mask.new) reports.old.filled reports.old.places.now reports.new.filled reports.new.places.now }
-    ensures kept { Kept domain rule spare mask.old mask.new }
+    ensures machine { (d : M) → Ran (run (M.domain mask.old) (M.rule mask.old) (M.members mask.old) (map (move T.place O.table M.domain M.members M.rule (λ j. slice_index_or row.now j d)) calls.now)) (M.members mask.new) reports.old.filled reports.old.places.now reports.new.filled reports.new.places.now }
+    ensures kept { Kept M.domain M.rule M.spare mask.old mask.new }
 {
     for c in calls {
         let report = apply_call(mask, row, *c);
@@ -46,7 +46,7 @@ pub enum NotRun<A> {
 
 // A new mask, full or empty.
 fn new_mask<M: Mask>(full: bool, n: usize, memory: M::Memory) -> Result<M, Refused<M::Memory>>
-    ensures { Made domain rule spare suffices given past members full n memory result }
+    ensures { Made M.domain M.rule M.spare M.suffices M.given M.past M.members full n memory result }
 {
     if full {
         M::new_filled(n, memory)
@@ -65,10 +65,10 @@ pub fn run_from_new<M: Mask, T: Idx, O: Operator>(
     reports: &mut Collector<'_, Result<(usize, usize), Refusal>>,
     out: &mut Collector<'_, T>,
 ) -> Result<Left<M>, NotRun<M::Memory>>
-    ensures { MatchResult result (λ left. (past_row (length row.now) calls.now ≡ None) × (length calls.now ≤ length reports.old.places.now - reports.old.filled) × (suffices n memory ≡ true) × (spare left.mask ≡ past n memory)
-        × ((made : List Report) × Appended made reports.old.filled reports.old.places.now reports.new.filled reports.new.places.now × Succession domain members rule picture table limit place n (given n memory) full row.now calls.now made left.mask)
-        × Listed limit place n (members left.mask) out.old.filled out.old.places.now out.new.filled out.new.places.now left.listed)
-        (λ e. IsNotRun (past_row (length row.now) calls.now) (length calls.now) (length reports.old.places.now - reports.old.filled) (suffices n memory) memory e
+    ensures { MatchResult result (λ left. (past_row (length row.now) calls.now ≡ None) × (length calls.now ≤ length reports.old.places.now - reports.old.filled) × (M.suffices n memory ≡ true) × (M.spare left.mask ≡ M.past n memory)
+        × ((made : List Report) × Appended made reports.old.filled reports.old.places.now reports.new.filled reports.new.places.now × Succession M.domain M.members M.rule M.picture O.table T.limit T.place n (M.given n memory) full row.now calls.now made left.mask)
+        × Listed T.limit T.place n (M.members left.mask) out.old.filled out.old.places.now out.new.filled out.new.places.now left.listed)
+        (λ e. IsNotRun (past_row (length row.now) calls.now) (length calls.now) (length reports.old.places.now - reports.old.filled) (M.suffices n memory) memory e
         × (reports.new.places.now ≡ reports.old.places.now) × (reports.new.filled ≡ reports.old.filled) × (out.new.places.now ≡ out.old.places.now) × (out.new.filled ≡ out.old.filled)) }
 {
     if let Some(j) = past_row(calls, row.len()) {

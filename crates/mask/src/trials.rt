@@ -88,7 +88,7 @@ fn pattern_word(b: usize, round: usize) -> Word
 // One call on the sixty-four patterns of a round.
 fn trial_step<T: Idx, O: Operator>(call: Call<T, O>, word: Word, round: usize) -> Word
     requires { Named 16 call }
-    ensures { (k : ℕ) → k < 64 → bit result k ≡ bit_after place table (λ j. bit (64 * round + k) (j + 1)) (bit word k) call }
+    ensures { (k : ℕ) → k < 64 → bit result k ≡ bit_after T.place O.table (λ j. bit (64 * round + k) (j + 1)) (bit word k) call }
 {
     match call {
         Call::Insert(_) | Call::Remove(_) => word,
@@ -101,7 +101,7 @@ fn trial_step<T: Idx, O: Operator>(call: Call<T, O>, word: Word, round: usize) -
 // What a list leaves of the sixty-four patterns of a round.
 fn trial_word<T: Idx, O: Operator>(calls: &[Call<T, O>], round: usize) -> Word
     requires { untried calls.now ≡ None }
-    ensures { (k : ℕ) → k < 64 → bit result k ≡ pattern_trial place table (64 * round + k) calls.now }
+    ensures { (k : ℕ) → k < 64 → bit result k ≡ pattern_trial T.place O.table (64 * round + k) calls.now }
 {
     let mut word = pattern_word(0, round);
     for c in calls {
@@ -113,7 +113,7 @@ fn trial_word<T: Idx, O: Operator>(calls: &[Call<T, O>], round: usize) -> Word
 // Whether two lists leave the same of every pattern.
 fn patterns_agree<T: Idx, O: Operator>(xs: &[Call<T, O>], ys: &[Call<T, O>]) -> bool
     requires { (untried xs.now ≡ None) × (untried ys.now ≡ None) }
-    ensures { Tells result (Agree place table xs.now ys.now) }
+    ensures { Tells result (Agree T.place O.table xs.now ys.now) }
 {
     for round in 0..ROUNDS {
         if trial_word(xs, round) != trial_word(ys, round) {
@@ -126,7 +126,7 @@ fn patterns_agree<T: Idx, O: Operator>(xs: &[Call<T, O>], ys: &[Call<T, O>]) -> 
 // The same answer says whether the lists leave masks of equal pictures.
 fn pictures_agree<M: Mask, T: Idx, O: Operator>(xs: &[Call<T, O>], ys: &[Call<T, O>]) -> bool
     requires { untried (xs.now ++ ys.now) ≡ None }
-    ensures { Tried place table domain members rule picture xs.now ys.now (Ok result) }
+    ensures { Tried T.place O.table M.domain M.members M.rule M.picture xs.now ys.now (Ok result) }
 {
     patterns_agree(xs, ys)
 }
@@ -137,7 +137,7 @@ pub fn trials_agree<M: Mask, T: Idx, O: Operator>(
     xs: &[Call<T, O>],
     ys: &[Call<T, O>],
 ) -> Result<bool, NotTried>
-    ensures { Tried place table domain members rule picture xs.now ys.now result }
+    ensures { Tried T.place O.table M.domain M.members M.rule M.picture xs.now ys.now result }
 {
     if let Some(why) = untried_lists(xs, ys) {
         return Err(why);

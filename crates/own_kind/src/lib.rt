@@ -1,4 +1,6 @@
 // A kind of mask of one's own, written against the trait alone.
+#![tactic(auto)]
+
 pub mod all_or_nothing;
 mod flags;
 pub mod mask_calls;

@@ -1,4 +1,6 @@
 // Answers a list of calls on masks: reads a call from each line of standard input, and prints the line with its answer.
+#![tactic(auto)]
+
 mod answers;
 mod calls;
 mod fault;

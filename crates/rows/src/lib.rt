@@ -1,5 +1,7 @@
 // Work on rows of words over a domain: what the mask kinds are made of.
 // These calls are inner: the sets above see to it that an index lies in the row and a row reaches its domain.
+#![tactic(auto)]
+
 ghost use Rattle.std.specs.Prelude.{◌≡◌, ℕ, ◌+◌, ◌*◌, ◌/◌, ◌^◌, ◌<◌, ◌≤◌, Bool, true, false, not, ◌++◌, length, drop, replicate, if◌then◌else◌, vec_len};
 ghost use Rattle.rows.specs.Members.{Becomes, Fit, Clean, Lowest};
 ghost use Rattle.words.specs.Bits.{bit, holds, one, tally, words_for};

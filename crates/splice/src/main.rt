@@ -1,4 +1,6 @@
 // Splices adverts into an episode and out again: reads the steps from standard input and prints each as it happens.
+#![tactic(auto)]
+
 mod episode;
 mod fault;
 mod lines;

@@ -1,8 +1,6 @@
 -- Laws of counts of the indices that pass a test.
-use Rattle.std.proofs.Common.{◌≡◌, ℕ, zero, suc, ◌+◌, ◌-◌, ◌*◌, ◌<◌, ◌≤◌, Bool, true, false, sym, refl, ap, ◌∙◌, ap₂, inl, inr, add-zero, add_assoc, zero-add, arith}
-use Rattle.std.proofs.lemmas.Bool.{cases_lt}
+use Rattle.std.proofs.Common.{◌≡◌, ℕ, zero, suc, ◌+◌, ◌-◌, ◌<◌, ◌≤◌, Bool, true, false, sym, refl, ap, ◌∙◌, ap₂, add-zero, add_assoc, zero-add, arith}
 use Rattle.words.specs.Bits.{one, tally}
-use Rattle.words.specs.Rows.{enters}
 
 pub one_le : (b : Bool) → one b ≤ 1
 one_le true = omega arith

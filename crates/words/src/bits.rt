@@ -7,7 +7,7 @@ use index::Idx;
 
 // How many words hold `domain_size` bits.
 pub fn num_words<T: Idx>(domain_size: T) -> usize
-    ensures { result ≡ words_for (place domain_size) }
+    ensures { result ≡ words_for (T.place domain_size) }
 {
     domain_size.index().div_ceil(WORD_BITS)
 }
@@ -22,8 +22,8 @@ fn bit_mask(k: usize) -> Word
 
 // The place of the word that has the index's bit, and the mask of that bit in it.
 pub fn word_index_and_mask<T: Idx>(elem: T) -> (usize, Word)
-    ensures index { result.0 ≡ place elem / 64 }
-    ensures mask { result.1 ≡ 2 ^ (place elem % 64) }
+    ensures index { result.0 ≡ T.place elem / 64 }
+    ensures mask { result.1 ≡ 2 ^ (T.place elem % 64) }
 {
     let elem = elem.index();
     (elem / WORD_BITS, bit_mask(elem % WORD_BITS))

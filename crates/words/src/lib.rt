@@ -1,4 +1,6 @@
 // Words of 64 bits, rows of them, and the operators that combine them.
+#![tactic(auto)]
+
 pub mod bits;
 pub mod operators;
 pub mod rows;

@@ -109,8 +109,8 @@ impl<O: Operator> Operator for ComplementOperand<O> {
 
 // Two layers over an operator are the operator itself: the same table, so the same result.
 pub fn apply_complemented_twice<O: Operator>(op: O, own: Word, operand: Word) -> Word
-    ensures table { complemented (complemented (table op)) ≡ table op }
-    ensures bits { Applied (table op) own operand result }
+    ensures table { complemented (complemented (O.table op)) ≡ O.table op }
+    ensures bits { Applied (O.table op) own operand result }
 {
     let once = ComplementOperand { below: op };
     ComplementOperand { below: once }.apply(own, operand)

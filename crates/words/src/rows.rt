@@ -26,7 +26,7 @@ fn put_bit(words: &mut [Word], index: usize, on: bool) -> bool
 
 // Sets the index's bit, and answers whether it was clear. An index past the row is refused.
 pub fn insert<T: Idx>(words: &mut [Word], value: T) -> Result<bool, Refusal>
-    ensures { Put true (place value) words.old words.new result }
+    ensures { Put true (T.place value) words.old words.new result }
 {
     let index = value.index();
     if index / WORD_BITS >= words.len() {
@@ -37,7 +37,7 @@ pub fn insert<T: Idx>(words: &mut [Word], value: T) -> Result<bool, Refusal>
 
 // Clears the index's bit, and answers whether it was set. An index past the row is refused.
 pub fn remove<T: Idx>(words: &mut [Word], value: T) -> Result<bool, Refusal>
-    ensures { Put false (place value) words.old words.new result }
+    ensures { Put false (T.place value) words.old words.new result }
 {
     let index = value.index();
     if index / WORD_BITS >= words.len() {
@@ -77,7 +77,7 @@ pub fn has_changed(report: (usize, usize)) -> bool
 
 // Whether `update_words` would change any bit of `lhs`.
 pub fn would_modify_words<O: Operator>(lhs: &[Word], rhs: &[Word], op: &O) -> bool
-    ensures { result ≡ changed (entered (table op.now) lhs.now rhs.now) (left (table op.now) lhs.now rhs.now) }
+    ensures { result ≡ changed (entered (O.table op.now) lhs.now rhs.now) (left (O.table op.now) lhs.now rhs.now) }
 {
     let len = lhs.len().min(rhs.len());
     let mut start = 0;
@@ -102,9 +102,9 @@ pub fn would_modify_words<O: Operator>(lhs: &[Word], rhs: &[Word], op: &O) -> bo
 // Does the work of `update_words` over the first `len` words, which are those that both rows have.
 fn update_shared<O: Operator>(lhs: &mut [Word], rhs: &[Word], op: &O, len: usize) -> (usize, usize)
     requires { len ≡ min (length lhs.old) (length rhs.now) }
-    ensures row { Rewritten (combined (table op.now) lhs.old rhs.now) lhs.old lhs.new }
-    ensures entered { result.0 ≡ capped (entered (table op.now) lhs.old rhs.now) }
-    ensures left { result.1 ≡ capped (left (table op.now) lhs.old rhs.now) }
+    ensures row { Rewritten (combined (O.table op.now) lhs.old rhs.now) lhs.old lhs.new }
+    ensures entered { result.0 ≡ capped (entered (O.table op.now) lhs.old rhs.now) }
+    ensures left { result.1 ≡ capped (left (O.table op.now) lhs.old rhs.now) }
 {
     let mut entered: usize = 0;
     let mut left: usize = 0;
@@ -129,9 +129,9 @@ fn update_shared<O: Operator>(lhs: &mut [Word], rhs: &[Word], op: &O, len: usize
 // Puts each word of `lhs` that has a fellow in `rhs` through the operator with it,
 // and answers how many bits went from 0 to 1 and how many from 1 to 0.
 pub fn update_words<O: Operator>(lhs: &mut [Word], rhs: &[Word], op: &O) -> (usize, usize)
-    ensures row { Rewritten (combined (table op.now) lhs.old rhs.now) lhs.old lhs.new }
-    ensures entered { result.0 ≡ capped (entered (table op.now) lhs.old rhs.now) }
-    ensures left { result.1 ≡ capped (left (table op.now) lhs.old rhs.now) }
+    ensures row { Rewritten (combined (O.table op.now) lhs.old rhs.now) lhs.old lhs.new }
+    ensures entered { result.0 ≡ capped (entered (O.table op.now) lhs.old rhs.now) }
+    ensures left { result.1 ≡ capped (left (O.table op.now) lhs.old rhs.now) }
 {
     let shared = rhs.len().min(lhs.len());
     update_shared(lhs, rhs, op, shared)

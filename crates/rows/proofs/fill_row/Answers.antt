@@ -10,7 +10,7 @@ loop-j-init c = done_none _ _
 
 new_bit : (c : goal.After-turned-c) (k : ℕ) → k < 64 → bit c.if-on.new k ≡ (c.args.on && ltb (64 * c.loop-j.j + k) c.args.domain)
 new_bit c k h = elim c.if-on.branch [
-  | then-on t ↦ ap (λ x. bit x k) t.new-is ∙ c.word-below-mask.ensures k h ∙ ap (λ b. b && ltb (64 * c.loop-j.j + k) c.args.domain) (sym t.if-on.true)
+  | then-on t ↦ ap (λ x. bit x k) t.new-is ∙ c.word_below-mask.ensures k h ∙ ap (λ b. b && ltb (64 * c.loop-j.j + k) c.args.domain) (sym t.if-on.true)
   | else-on t ↦ ap (λ x. bit x k) t.new-is ∙ bit_none k ∙ ap (λ b. b && ltb (64 * c.loop-j.j + k) c.args.domain) (sym t.if-on.false)
 ]
 
@@ -22,11 +22,11 @@ next c =
 cap : (c : goal.After-turned-c) → (c.loop-j.branch + c.turned-c.result.0 ≤ c.args.domain) × (c.loop-j.went + c.turned-c.result.1 ≤ c.args.domain)
 cap c = done_cap (under (λ _. c.args.on) c.args.domain) c.args.domain c.args.own.now _ (c.loop-j.j + 1) _ _ (next c) c.requires.clean (under_past (λ _. c.args.on) c.args.domain) (omega arith)
 
-pub overflow-add-came : goal.overflow-add-came
-overflow-add-came c = omega (arith, (cap c).0)
+pub overflow_add-came : goal.overflow_add-came
+overflow_add-came c = omega (arith, (cap c).0)
 
-pub overflow-add-went : goal.overflow-add-went
-overflow-add-went c = omega (arith, (cap c).1)
+pub overflow_add-went : goal.overflow_add-went
+overflow_add-went c = omega (arith, (cap c).1)
 
 pub loop-j-preserved : goal.loop-j-preserved
 loop-j-preserved c = next c

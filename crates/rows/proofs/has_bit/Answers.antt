@@ -10,5 +10,5 @@ unfolding holds
 returns c =
     let ws = c.args.words.now in
     let p = c.args.index in
-    let e = c.word-index-and-mask-word-index.ensures in
-    ap₂ (λ j m. not (eqb (bit_and (get_or ws j 0) m) 0)) e.index e.mask ∙ and_pow (get_or ws (p / 64) 0) (p % 64) (omega (arith, c.type-inv.words (p / 64))) (omega arith)
+    let e = c.word_index_and_mask-word_index.ensures in
+    ap₂ (λ j m. not (eqb (bit_and (get_or ws j 0) m) 0)) e.index e.mask ∙ and_pow (get_or ws (p / 64) 0) (p % 64) (omega (arith, c.type_inv.words (p / 64))) (omega arith)

@@ -14,22 +14,22 @@ pub returns-in-Some : goal.returns-in-Some
 returns-in-Some c =
     let ws = c.args.words.now in
     let from = c.args.from in
-    let j = c.word-index-and-mask-start.result.0 in
-    let e = c.word-index-and-mask-start.ensures in
+    let j = c.word_index_and_mask-start.result.0 in
+    let e = c.word_index_and_mask-start.ensures in
     first_some ws from j (from % 64) _ (omega (arith, e.index)) (omega arith) (λ k h. cut ws from j _ k e.index e.mask h) c.in-Some.bit c.in-Some.ensures.0 c.in-Some.ensures.1 (omega arith)
 
 pub loop-k-init : goal.loop-k-init
 loop-k-init c =
     let ws = c.args.words.now in
     let from = c.args.from in
-    let j = c.word-index-and-mask-start.result.0 in
-    let e = c.word-index-and-mask-start.ensures in
-    first_none ws from j (from % 64) _ (omega (arith, e.index)) (omega arith) (λ k h. cut ws from j _ k e.index e.mask h) c.in-default.ensures
+    let j = c.word_index_and_mask-start.result.0 in
+    let e = c.word_index_and_mask-start.ensures in
+    first_none ws from j (from % 64) _ (omega (arith, e.index)) (omega arith) (λ k h. cut ws from j _ k e.index e.mask h) c.in_default.ensures
 
-pub returns-in-Some-min-bit : goal.returns-in-Some-min-bit
-returns-in-Some-min-bit c =
-    let e = c.word-index-and-mask-start.ensures in
-    word_some c.args.words.now c.args.from c.loop-k.k c.loop-k.invariant c.in-Some-min-bit.bit c.in-Some-min-bit.ensures.0 c.in-Some-min-bit.ensures.1 (omega arith) (omega (arith, e.index, c.loop-k.auto.k))
+pub returns-in-Some-min_bit : goal.returns-in-Some-min_bit
+returns-in-Some-min_bit c =
+    let e = c.word_index_and_mask-start.ensures in
+    word_some c.args.words.now c.args.from c.loop-k.k c.loop-k.invariant c.in-Some-min_bit.bit c.in-Some-min_bit.ensures.0 c.in-Some-min_bit.ensures.1 (omega arith) (omega (arith, e.index, c.loop-k.auto.k))
 
 pub loop-k-preserved : goal.loop-k-preserved
-loop-k-preserved c = word_none c.args.words.now c.args.from c.loop-k.k c.loop-k.invariant c.in-default-min-bit.ensures
+loop-k-preserved c = word_none c.args.words.now c.args.from c.loop-k.k c.loop-k.invariant c.in_default-min_bit.ensures

@@ -11,5 +11,5 @@ pub returns-else-j-rows : goal.returns-else-j-rows
 unfolding past_row
 returns-else-j-rows g c = search rules
 
-pub returns-in-default : goal.returns-in-default
-returns-in-default g c = past_other _ _ c.in-default.not-Combine
+pub returns-in_default : goal.returns-in_default
+returns-in_default g c = past_other _ _ c.in_default.not-Combine

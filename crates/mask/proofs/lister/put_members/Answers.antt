@@ -1,9 +1,8 @@
 -- Each turn puts the lowest member of the word that is not put yet, until the word has none left.
-use Rattle.std.proofs.Common.{◌≡◌, ℕ, ◌+◌, ◌*◌, ◌<◌, Bool, List, length, sym, ap, ◌∙◌, arith}
-use Rattle.mask.proofs.Listing.{Partly, partly_none, Found, Within, within_found, within_more, within_all, within_at, past_end, put_all}
-use Rattle.mask.proofs.lister.put_members.Given as given
+use Rattle.std.proofs.Common.{◌*◌, Bool, List, length, ap, ◌∙◌, arith}
+use Rattle.mask.proofs.Listing.{partly_none, within_found, within_more, within_all, within_at, past_end, put_all}
 use Rattle.mask.proofs.lister.put_members.Goals as goal
-use Rattle.mask.proofs.lister.put_members.Goals.{in-Some-new, in-default-new}
+use Rattle.mask.proofs.lister.put_members.Goals.{in-Some-new, in_default-new}
 
 pub loop-k-init : goal.loop-k-init
 loop-k-init g c = partly_none _ _ _ _ (omega (arith, c.requires.room, c.args.out.now.ok))
@@ -16,27 +15,27 @@ push-requires g c =
 
 pub loop-bit-preserved : goal.loop-bit-preserved
 loop-bit-preserved g c start old p =
-    let bs : List Bool = g.M-as-Mask.members c.args.mask.now in
+    let bs : List Bool = g.M.Mask.members c.args.mask.now in
     let w = c.loop-bit.invariant start old p in
     let t = c.in-Some.bit in
     let few = c.in-Some.ensures.0 in
     let low = c.in-Some.ensures.1 in
     elim c.match-new.branch [
       | in-Some-new v ↦
-          within_at g.T.Idx.place bs start old c.loop-k.k c.without-bit-rest.result
+          within_at g.T.Idx.place bs start old c.loop-k.k c.without_bit-rest.result
           (ap (λ x. x.filled) v.out-is ∙ v.push.ensures.filled) (ap (λ x. x.places.now) v.out-is ∙ v.push.ensures.places)
-          (within_more g.T.Idx.place bs start old c.loop-bit.out.filled c.loop-bit.out.places.now c.loop-k.k c.loop-bit.rest t w few low v.in-Some-new.v c.without-bit-rest.result v.in-Some-new.ensures.1 c.without-bit-rest.ensures.bits)
-      | in-default-new v ↦
+          (within_more g.T.Idx.place bs start old c.loop-bit.out.filled c.loop-bit.out.places.now c.loop-k.k c.loop-bit.rest t w few low v.in-Some-new.v c.without_bit-rest.result v.in-Some-new.ensures.1 c.without_bit-rest.ensures.bits)
+      | in_default-new v ↦
           (let f = within_found g.T.Idx.place bs start old c.loop-bit.out.filled c.loop-bit.out.places.now c.loop-k.k c.loop-bit.rest t w few low in
-          absurd (omega (arith, f.high, g.met.M.Mask.long c.args.mask.now, c.requires.covered, v.in-default-new.ensures)))
+          absurd (omega (arith, f.high, g.met.M.Mask.long c.args.mask.now, c.requires.covered, v.in_default-new.ensures)))
     ]
 
 pub loop-k-preserved : goal.loop-k-preserved
 loop-k-preserved g c =
-    within_all g.T.Idx.place _ _ _ _ _ c.loop-k.k c.loop-bit.rest c.in-default.ensures (c.loop-bit.invariant c.args.out.now.filled c.args.out.now.places.now c.loop-k.invariant)
+    within_all g.T.Idx.place _ _ _ _ _ c.loop-k.k c.loop-bit.rest c.in_default.ensures (c.loop-bit.invariant c.args.out.now.filled c.args.out.now.places.now c.loop-k.invariant)
 
 pub returns : goal.returns
 returns g c =
-    let bs : List Bool = g.M-as-Mask.members c.args.mask.now in
+    let bs : List Bool = g.M.Mask.members c.args.mask.now in
     put_all g.T.Idx.place bs c.args.out.now.filled c.args.out.now.places.now c.loop-k.out.filled c.loop-k.out.places.now (64 * c.loop-k.k)
-    (past_end bs (64 * c.loop-k.k) (omega (arith, g.met.M.Mask.long c.args.mask.now, c.num-words-k-end.ensures, c.domain-size.ensures))) c.loop-k.invariant
+    (past_end bs (64 * c.loop-k.k) (omega (arith, g.met.M.Mask.long c.args.mask.now, c.num_words-k-end.ensures, c.domain_size.ensures))) c.loop-k.invariant

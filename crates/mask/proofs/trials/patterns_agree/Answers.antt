@@ -7,19 +7,19 @@ use Rattle.mask.proofs.trials.patterns_agree.Goals as goal
 pub loop-round-init : goal.loop-round-init
 loop-round-init g c v h = absurd (omega arith)
 
-pub returns-then-trial-word : goal.returns-then-trial-word
-returns-then-trial-word g c agree =
+pub returns-then-trial_word : goal.returns-then-trial_word
+returns-then-trial_word g c agree =
     let F : ℕ → Bool = λ v. pattern_trial g.T.Idx.place g.O.Operator.table v c.args.xs.now in
     let G : ℕ → Bool = λ v. pattern_trial g.T.Idx.place g.O.Operator.table v c.args.ys.now in
-    c.if-trial-word.true (
-    round_alike F G c.loop-round.round c.trial-word.result c.trial-word-in-loop-round.result c.trial-word.ensures c.trial-word-in-loop-round.ensures
-    c.trial-word.type-inv c.trial-word-in-loop-round.type-inv (agree_on g.T.Idx.place g.O.Operator.table c.args.xs.now c.args.ys.now agree))
+    c.if-trial_word.true (
+    round_alike F G c.loop-round.round c.trial_word.result c.trial_word-in-loop-round.result c.trial_word.ensures c.trial_word-in-loop-round.ensures
+    c.trial_word.type_inv c.trial_word-in-loop-round.type_inv (agree_on g.T.Idx.place g.O.Operator.table c.args.xs.now c.args.ys.now agree))
 
 pub loop-round-preserved : goal.loop-round-preserved
 loop-round-preserved g c =
     let F : ℕ → Bool = λ v. pattern_trial g.T.Idx.place g.O.Operator.table v c.args.xs.now in
     let G : ℕ → Bool = λ v. pattern_trial g.T.Idx.place g.O.Operator.table v c.args.ys.now in
-    round_more F G c.loop-round.round c.trial-word.result c.trial-word-in-loop-round.result c.trial-word.ensures c.trial-word-in-loop-round.ensures c.if-trial-word.false c.loop-round.invariant
+    round_more F G c.loop-round.round c.trial_word.result c.trial_word-in-loop-round.result c.trial_word.ensures c.trial_word-in-loop-round.ensures c.if-trial_word.false c.loop-round.invariant
 
 pub returns : goal.returns
 returns g c =

@@ -3,13 +3,13 @@ use Rattle.mask.proofs.Decides.{trials_decide}
 use Rattle.mask.proofs.Patterns.{both_tried, tried_plain, tells_like}
 use Rattle.mask.proofs.trials.pictures_agree.Goals as goal
 
-pub patterns-agree-requires : goal.patterns-agree-requires
-patterns-agree-requires g c = both_tried c.args.xs.now c.args.ys.now c.requires
+pub patterns_agree-requires : goal.patterns_agree-requires
+patterns_agree-requires g c = both_tried c.args.xs.now c.args.ys.now c.requires
 
 pub returns : goal.returns
 returns g c =
     let xs = c.args.xs.now in
     let ys = c.args.ys.now in
     let tried = both_tried xs ys c.requires in
-    let decided = trials_decide g.T.Idx.place g.O.Operator.table g.M-as-Mask.domain g.M-as-Mask.members g.M-as-Mask.rule g.M-as-Mask.picture g.met.M.Mask.long g.met.M.Mask.empty g.met.M.Mask.full g.met.M.Mask.seen g.met.M.Mask.shown g.met.M.Mask.spans xs ys (tried_plain xs tried.0) (tried_plain ys tried.1) in
-    (c.requires, c.patterns-agree.ensures, λ m pos. tells_like c.patterns-agree.result (decided m pos).0 (decided m pos).1 c.patterns-agree.ensures)
+    let decided = trials_decide g.T.Idx.place g.O.Operator.table g.M.Mask.domain g.M.Mask.members g.M.Mask.rule g.M.Mask.picture g.met.M.Mask.long g.met.M.Mask.empty g.met.M.Mask.full g.met.M.Mask.seen g.met.M.Mask.shown g.met.M.Mask.spans xs ys (tried_plain xs tried.0) (tried_plain ys tried.1) in
+    (c.requires, c.patterns_agree.ensures, λ m pos. tells_like c.patterns_agree.result (decided m pos).0 (decided m pos).1 c.patterns_agree.ensures)

@@ -8,16 +8,16 @@ use Rattle.mask.proofs.trials.trial_word.Goals as goal
 
 pub loop-c-init : goal.loop-c-init
 loop-c-init g c k h =
-    ap (λ (x : Bool). trial g.T.Idx.place g.O.Operator.table (λ j. bit (64 * c.args.round + k) (j + 1)) x c.args.calls.now) (c.pattern-word-word.ensures k h)
+    ap (λ (x : Bool). trial g.T.Idx.place g.O.Operator.table (λ j. bit (64 * c.args.round + k) (j + 1)) x c.args.calls.now) (c.pattern_word-word.ensures k h)
 
-pub trial-step-word-requires : goal.trial-step-word-requires
-trial-step-word-requires g c =
+pub trial_step-word-requires : goal.trial_step-word-requires
+trial_step-word-requires g c =
     subst (Named 16) (sym c.c-item.is) (all_named 16 c.args.calls.now (tried_row c.args.calls.now c.requires) c.loop-c.c-index c.c-item.result c.loop-c-test.true)
 
 pub loop-c-preserved : goal.loop-c-preserved
 loop-c-preserved g c k h =
-    trial_more g.T.Idx.place g.O.Operator.table (λ j. bit (64 * c.args.round + k) (j + 1)) (bit c.loop-c.word k) (bit c.trial-step-word.result k)
-    c.args.calls.now c.loop-c.c-index c.c-item.result c.loop-c-test.true c.c-item.is (c.trial-step-word.ensures k h)
+    trial_more g.T.Idx.place g.O.Operator.table (λ j. bit (64 * c.args.round + k) (j + 1)) (bit c.loop-c.word k) (bit c.trial_step-word.result k)
+    c.args.calls.now c.loop-c.c-index c.c-item.result c.loop-c-test.true c.c-item.is (c.trial_step-word.ensures k h)
     ∙ c.loop-c.invariant k h
 
 pub returns : goal.returns

@@ -10,12 +10,12 @@ four (a ∷ b ∷ c ∷ []) h = absurd (omega arith)
 four (a ∷ b ∷ c ∷ d ∷ []) h = refl
 four (a ∷ b ∷ c ∷ d ∷ e ∷ xs) h = absurd (omega arith)
 
-pub returns-in-ok-read-bit-4 : goal.returns-in-ok-read-bit-4
-returns-in-ok-read-bit-4 c =
-    let text = c.as-bytes.ensures.value in
-    let places = four c.as-bytes.result.now (search rules) in
-    let first = c.in-ok-read-bit.ensures in
-    let second = c.in-ok-read-bit-2.ensures in
-    let third = c.in-ok-read-bit-3.ensures in
-    let fourth = c.in-ok-read-bit-4.ensures in
+pub returns-in_ok-read_bit-4 : goal.returns-in_ok-read_bit-4
+returns-in_ok-read_bit-4 c =
+    let text = c.as_bytes.ensures.value in
+    let places = four c.as_bytes.result.now (search rules) in
+    let first = c.in_ok-read_bit.ensures in
+    let second = c.in_ok-read_bit-2.ensures in
+    let third = c.in_ok-read_bit-3.ensures in
+    let fourth = c.in_ok-read_bit-4.ensures in
     cc

@@ -14,5 +14,5 @@ lays false false = refl
 
 pub returns : goal.returns
 returns c =
-    combine_all or_table Lay lays c.args.mask.now c.args.advert.now c.update-words.new.lhs c.requires c.update-words.ensures.row c.update-words.result.0 c.update-words.result.1
-    c.update-words.ensures.entered c.update-words.ensures.left
+    combine_all or_table Lay lays c.args.mask.now c.args.advert.now c.update_words.new.lhs c.requires c.update_words.ensures.row c.update_words.result.0 c.update_words.result.1
+    c.update_words.ensures.entered c.update_words.ensures.left

@@ -12,4 +12,4 @@ misread (Some line) f h = tt
 misread None f h = h
 
 pub returns : goal.returns
-returns c = rw c.ok-or.ensures.value (misread c.read-words-line.result.0 (Unreadable c.trim-text.result c.read-words-line.result.1) tt)
+returns c = rw c.ok_or.ensures.value (misread c.read_words-line.result.0 (Unreadable c.trim-text.result c.read_words-line.result.1) tt)

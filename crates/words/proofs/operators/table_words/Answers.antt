@@ -1,6 +1,5 @@
 -- The four spread bits of the table are each let through at one pair of bits.
-use Rattle.std.proofs.Common.{◌≡◌, ℕ, ◌-◌, ◌^◌, ◌<◌, Bool, true, false, not, ◌&&◌, ◌||◌, refl, ap, ◌∙◌, ap₂, arith}
-use lib.Bits.{bit_and, bit_or}
+use Rattle.std.proofs.Common.{◌≡◌, Bool, true, false, not, ◌&&◌, ◌||◌, refl, ◌∙◌, arith}
 use Rattle.words.specs.Bits.{bit}
 use Rattle.words.specs.Tables.{look}
 use Rattle.words.specs.declared.table.Table.{Table}

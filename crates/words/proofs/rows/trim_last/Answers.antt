@@ -1,5 +1,5 @@
 -- The mask has the first `count` bits alone.
-use Rattle.std.proofs.Common.{◌≡◌, ℕ, ◌-◌, ◌*◌, ◌%◌, ◌^◌, ◌&&◌, length, get_or, refl, ap, ◌∙◌, arith}
+use Rattle.std.proofs.Common.{ℕ, ◌-◌, ◌*◌, ◌%◌, ◌^◌, ◌&&◌, length, get_or, refl, ap, ◌∙◌, arith}
 use lib.Bits.{bit_and, and_le_l}
 use Rattle.std.proofs.lemmas.Nat.{one_shl}
 use Rattle.words.specs.Bits.{bit}

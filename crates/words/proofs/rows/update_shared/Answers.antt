@@ -17,11 +17,11 @@ loop-k-init g c us d = d
 few : (a b : ℕ) → a < 2 ^ 64 → ones (bit_and a (2 ^ 64 - 1 - b)) < 2 ^ 64
 few a b h = omega (arith, ones-le 64 (bit_and a (2 ^ 64 - 1 - b)) (and_lt 64 a (2 ^ 64 - 1 - b) h (ones_sub-lt 64 b)))
 
-pub overflow-cast-new : goal.overflow-cast-new
-overflow-cast-new g c = omega (arith, few c.apply-new.result (get_or c.loop-k.lhs c.loop-k.k 0) (omega arith))
+pub overflow_cast-new : goal.overflow_cast-new
+overflow_cast-new g c = omega (arith, few c.apply-new.result (get_or c.loop-k.lhs c.loop-k.k 0) (omega arith))
 
-pub overflow-cast-old : goal.overflow-cast-old
-overflow-cast-old g c = omega (arith, few (get_or c.loop-k.lhs c.loop-k.k 0) c.apply-new.result (omega arith))
+pub overflow_cast-old : goal.overflow_cast-old
+overflow_cast-old g c = omega (arith, few (get_or c.loop-k.lhs c.loop-k.k 0) c.apply-new.result (omega arith))
 
 pub loop-k-preserved : goal.loop-k-preserved
 loop-k-preserved g c us d =
@@ -35,7 +35,7 @@ loop-k-preserved g c us d =
     (ones (bit_and new (2 ^ 64 - 1 - old))) (ones (bit_and old (2 ^ 64 - 1 - new)))
     (c.loop-k.invariant us d) (omega arith) refl refl ho (omega arith) c.apply-new.ensures.bits
     (ones_enters new old (omega arith) ho) (ones_enters old new ho (omega arith))
-    c.saturating-add-entered.result c.saturating-add-left.result c.saturating-add-entered.ensures c.saturating-add-left.ensures
+    c.saturating_add-entered.result c.saturating_add-left.result c.saturating_add-entered.ensures c.saturating_add-left.ensures
 
 pub loop-from-preserved-after-loop-k : goal.loop-from-preserved-after-loop-k
 loop-from-preserved-after-loop-k g c =
@@ -54,7 +54,7 @@ loop-from-preserved g c =
     let m = c.min.result in
     let s : a + m - a ≡ m = omega arith in
     let stays = part_alike t cur vs a m (omega (arith, c.min.ensures, c.requires, c.loop-from.invariant.1.long)) (omega (arith, c.min.ensures, c.requires))
-    (ap (λ x. changed (entered t (take x (drop a cur)) (take x (drop a vs))) (left t (take x (drop a cur)) (take x (drop a vs)))) (sym s) ∙ sym c.if-would-modify-words.ensures) in (
+    (ap (λ x. changed (entered t (take x (drop a cur)) (take x (drop a vs))) (left t (take x (drop a cur)) (take x (drop a vs)))) (sym s) ∙ sym c.if-would_modify_words.ensures) in (
       omega (arith, c.min.ensures),
       partly_same t c.args.lhs.now vs cur a (a + m) c.loop-from.entered c.loop-from.left c.loop-from.invariant.1 (omega arith) stays,
     )

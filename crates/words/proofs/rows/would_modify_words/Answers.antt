@@ -1,10 +1,10 @@
 -- A word that would change leaves a bit in `changed`, and only such a word does.
-use Rattle.std.proofs.Common.{◌≡◌, ℕ, ◌+◌, ◌-◌, ◌<◌, Bool, true, false, ltb, length, get_or, take, drop, sym, ◌∙◌, ap₂, inl, inr, arith}
+use Rattle.std.proofs.Common.{◌+◌, ◌-◌, ◌<◌, ltb, get_or, take, drop, sym, ◌∙◌, ap₂, inl, inr, arith}
 use Rattle.std.proofs.lemmas.List.{length-take}
 use Rattle.std.proofs.lemmas.Bool.{cases_Bool, or_parts, ltb-false}
 use Rattle.words.specs.Rows.{changed, entered, left}
 use Rattle.words.proofs.RowBits.{get_d_part}
-use Rattle.words.proofs.Updating.{Alike, alike_more, alike_less, alike_none, none_alike}
+use Rattle.words.proofs.Updating.{alike_more, alike_less, alike_none, none_alike}
 use Rattle.words.proofs.rows.would_modify_words.Goals as goal
 
 pub loop-k-preserved : goal.loop-k-preserved

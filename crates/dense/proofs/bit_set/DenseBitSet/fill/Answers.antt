@@ -6,17 +6,17 @@ use Rattle.mask.proofs.Steps.{fill_in}
 use Rattle.rows.proofs.Tabs.{tab_const}
 use Rattle.dense.proofs.bit_set.DenseBitSet.fill.Goals as goal
 
-pub invariant-of-self : goal.invariant-of-self
-invariant-of-self c =
+pub invariant_of-self : goal.invariant_of-self
+invariant_of-self c =
     let s = c.args.self.now in
-    let b = lent_becomes s.words c.deref-mut.result.now c.fill-row.new.own c.deref-mut.ensures.value _ (λ _. c.args.on) _ _ (λ i h. refl) c.fill-row.ensures in
+    let b = lent_becomes s.words c.deref_mut.result.now c.fill_row.new.own c.deref_mut.ensures.value _ (λ _. c.args.on) _ _ (λ i h. refl) c.fill_row.ensures in
     (s.enough, (b.fit, (b.clean, tt)))
 
 pub returns : goal.returns
 returns c =
     let s = c.args.self.now in
     let n = s.domain_size in
-    let b = lent_becomes s.words c.deref-mut.result.now c.fill-row.new.own c.deref-mut.ensures.value _ (λ _. c.args.on) _ _ (λ i h. refl) c.fill-row.ensures in
+    let b = lent_becomes s.words c.deref_mut.result.now c.fill_row.new.own c.deref_mut.ensures.value _ (λ _. c.args.on) _ _ (λ i h. refl) c.fill_row.ensures in
     record {
       machine = fill_in n _ _ _ _ refl (becomes_came _ _ _ _ _ b) (becomes_went _ _ _ _ _ b) c.args.on (becomes_members _ _ _ _ _ b ∙ tab_const c.args.on n);
       kept = (refl, refl, becomes_behind _ n _ _ _ b);

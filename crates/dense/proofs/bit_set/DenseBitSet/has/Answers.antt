@@ -10,5 +10,5 @@ returns c =
     let i = c.args.index in
     let n = c.args.self.now.domain_size in
     let inside : i < n = omega arith in
-    let is = c.has-bit.ensures ∙ ap (λ x. holds x i) c.deref.ensures.value ∙ sym (get_or-tab (holds (vec_items c.args.self.now.words)) n i _ inside) in
+    let is = c.has_bit.ensures ∙ ap (λ x. holds x i) c.deref.ensures.value ∙ sym (get_or-tab (holds (vec_items c.args.self.now.words)) n i _ inside) in
     ap Ok is ∙ cond_below i n _ _ inside

@@ -10,7 +10,7 @@ returns-then-index-self c =
     let i = c.args.index in
     let s = c.args.self.now in
     let inside : i < s.domain_size = omega arith in
-    c.has-bit.ensures ∙ ap (λ x. holds x i) c.deref.ensures.value ∙ sym (get_or-tab (holds (vec_items s.words)) s.domain_size i _ inside)
+    c.has_bit.ensures ∙ ap (λ x. holds x i) c.deref.ensures.value ∙ sym (get_or-tab (holds (vec_items s.words)) s.domain_size i _ inside)
 
 pub returns-else-index-self : goal.returns-else-index-self
 returns-else-index-self c =

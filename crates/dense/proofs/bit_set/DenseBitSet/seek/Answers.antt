@@ -8,7 +8,7 @@ use Rattle.dense.proofs.bit_set.DenseBitSet.seek.Goals as goal
 pub returns : goal.returns
 returns c =
     let s = c.args.self.now in
-    let n : c.num-words-n.result - 0 ≡ words_for s.domain_size = omega (arith, c.num-words-n.ensures) in
+    let n : c.num_words-n.result - 0 ≡ words_for s.domain_size = omega (arith, c.num_words-n.ensures) in
     let row = ap₂ (λ w xs. take w xs) n c.deref.ensures.value in
-    row_next s.domain_size (vec_items s.words) c.args.from c.next-set.result (omega (arith, s.enough, s.words.ok.0)) s.clean
-    (subst (λ (ws : List ℕ). Lowest (holds ws) c.args.from (64 * length ws) c.next-set.result) row c.next-set.ensures)
+    row_next s.domain_size (vec_items s.words) c.args.from c.next_set.result (omega (arith, s.enough, s.words.ok.0)) s.clean
+    (subst (λ (ws : List ℕ). Lowest (holds ws) c.args.from (64 * length ws) c.next_set.result) row c.next_set.ensures)

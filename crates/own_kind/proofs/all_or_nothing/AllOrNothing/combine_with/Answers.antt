@@ -11,6 +11,6 @@ pub returns : goal.returns
 returns g c =
     let t = c.turn.ensures in
     record {
-      machine = combine_in _ _ _ _ _ t.members t.entered t.left _ c.args.other.now.full _ c.looked-up-on.ensures c.if-self-other.false;
+      machine = combine_in _ _ _ _ _ t.members t.entered t.left _ c.args.other.now.full _ c.looked_up-on.ensures c.if-self-other.false;
       kept = (t.domain, refl {a = none_or_all}, refl {a = []});
     }

@@ -8,7 +8,7 @@ pub returns-then-self : goal.returns-then-self
 returns-then-self c b h =
     let s = c.args.self.now in
     let i = 64 * c.args.k + b in
-    c.word-below.ensures b h ∙ sym (place_uniform s.domain_size i s.full ∙ ap (λ x. x && ltb i s.domain_size) c.if-self.true)
+    c.word_below.ensures b h ∙ sym (place_uniform s.domain_size i s.full ∙ ap (λ x. x && ltb i s.domain_size) c.if-self.true)
 
 pub returns-else-self : goal.returns-else-self
 returns-else-self c b h =

@@ -7,5 +7,5 @@ use Rattle.splice.proofs.episode.Episode.advert.Goals as goal
 pub returns : goal.returns
 returns c =
     let e = c.args.self.now in
-    c.count-ones.ensures ∙ ap (λ ws. set_bits ws % 2 ^ 64) c.deref.ensures.value
+    c.count_ones.ensures ∙ ap (λ ws. set_bits ws % 2 ^ 64) c.deref.ensures.value
     ∙ count_all e.samples e.small (vec_items e.mask) (sym e.mask.ok.0 ∙ e.rows) e.ends

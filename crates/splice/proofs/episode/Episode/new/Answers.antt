@@ -4,9 +4,9 @@ use Rattle.words.specs.Bits.{holds, words_for}
 use Rattle.splice.proofs.Splicing.{holds_none}
 use Rattle.splice.proofs.episode.Episode.new.Goals as goal
 
-pub invariant-of-result : goal.invariant-of-result
-invariant-of-result c =
+pub invariant_of-result : goal.invariant_of-result
+invariant_of-result c =
     (omega arith, (c.in-Ok.ensures.0, ((λ i l. ap (λ ws. holds ws i) c.in-Ok.ensures.1 ∙ holds_none (words_for c.args.samples) i), tt)))
 
 pub returns : goal.returns
-returns c = (refl, c.in-Ok.ensures.1, c.in-Ok-clear-row.ensures.1, c.new.ensures.items)
+returns c = (refl, c.in-Ok.ensures.1, c.in-Ok-clear_row.ensures.1, c.new.ensures.items)

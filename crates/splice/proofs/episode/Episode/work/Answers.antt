@@ -5,19 +5,19 @@ use Rattle.std.specs.Vec.{with_items}
 use Rattle.splice.proofs.Splicing.{combined_at, worked_ends, worked_all}
 use Rattle.splice.proofs.episode.Episode.work.Goals as goal
 
-pub invariant-of-self-2 : goal.invariant-of-self-2
-invariant-of-self-2 c =
+pub invariant_of-self-2 : goal.invariant_of-self-2
+invariant_of-self-2 c =
     let e = c.args.self.now in
     let new = c.combine-entered.new.mask in
     let row = c.combine-entered.ensures in
-    let final : vec_items (with_items e.mask new) ≡ new = with_items_is e.mask new (row.long ∙ c.deref-mut.ensures.len) in
-    let all = combined_at c.combine-entered.result.0 c.combine-entered.result.1 c.deref-mut.ensures.value c.deref.ensures.value (sym final) row in (
+    let final : vec_items (with_items e.mask new) ≡ new = with_items_is e.mask new (row.long ∙ c.deref_mut.ensures.len) in
+    let all = combined_at c.combine-entered.result.0 c.combine-entered.result.1 c.deref_mut.ensures.value c.deref.ensures.value (sym final) row in (
       e.small,
       (
         e.rows,
         (
           worked_ends c.args.step e.samples (vec_items e.mask) (vec_items c.in-Ok.advert) (vec_items (with_items e.mask new)) c.combine-entered.result.0 c.combine-entered.result.1 all
-              c.in-Ok.ensures.1 c.in-ok-check.ensures.1 e.ends,
+              c.in-Ok.ensures.1 c.in_ok-check.ensures.1 e.ends,
           tt,
         ),
       ),
@@ -28,9 +28,9 @@ returns c =
     let e = c.args.self.now in
     let new = c.combine-entered.new.mask in
     let row = c.combine-entered.ensures in
-    let final : vec_items (with_items e.mask new) ≡ new = with_items_is e.mask new (row.long ∙ c.deref-mut.ensures.len) in
-    let all = combined_at c.combine-entered.result.0 c.combine-entered.result.1 c.deref-mut.ensures.value c.deref.ensures.value (sym final) row in
-    let inside = c.in-ok-check.ensures in
+    let final : vec_items (with_items e.mask new) ≡ new = with_items_is e.mask new (row.long ∙ c.deref_mut.ensures.len) in
+    let all = combined_at c.combine-entered.result.0 c.combine-entered.result.1 c.deref_mut.ensures.value c.deref.ensures.value (sym final) row in
+    let inside = c.in_ok-check.ensures in
     record {
       same = (refl, refl);
       ok = worked_all c.args.step e.samples (vec_items e.mask) (vec_items c.in-Ok.advert) (vec_items (with_items e.mask new)) c.combine-entered.result.0 c.combine-entered.result.1 all

@@ -6,8 +6,8 @@ use Rattle.splice.specs.Strips.{Drawn}
 use Rattle.splice.proofs.Columns.{tiled}
 use Rattle.splice.proofs.strip.Strip.of.Goals as goal
 
-pub column-mark-requires : goal.column-mark-requires
-column-mark-requires c =
+pub column_mark-requires : goal.column_mark-requires
+column_mark-requires c =
     let e = c.args.episode.now in
     record { within = omega (arith, ap length c.words-words.ensures, e.mask.ok.0, e.rows); columns = (c.min-columns.ensures, c.loop-column-test.true) }
 
@@ -16,7 +16,7 @@ loop-column-preserved c = (
   length-set _ _ _ ∙ c.loop-column.invariant.0,
   below_more _ _
       (λ j h. let ne : j ≢ c.loop-column.column = omega arith in rw get_or-set_other (c.loop-column.invariant.1 j h))
-      (let lt : c.loop-column.column < length c.loop-column.marks = omega (arith, c.loop-column.invariant.0) in rw get_or-set_same c.column-mark.ensures),
+      (let lt : c.loop-column.column < length c.loop-column.marks = omega (arith, c.loop-column.invariant.0) in rw get_or-set_same c.column_mark.ensures),
 )
 
 pub returns : goal.returns
