@@ -1,10 +1,10 @@
 -- Rows that nothing would change in.
-use Rattle.std.proofs.Common.{◌≡◌, ℕ, ◌+◌, ◌*◌, ◌^◌, ◌<◌, ◌≤◌, min, Bool, true, false, not, ltb, List, length, get_or, sym, refl, ap, ◌∙◌, ap₂, true≢false, arith}
+use Rattle.std.proofs.Common.{◌≡◌, ℕ, ◌+◌, ◌*◌, ◌^◌, ◌<◌, min, Bool, true, false, not, ltb, List, length, get_or, sym, refl, ap, ◌∙◌, ap₂, true≢false, arith}
 use Rattle.std.proofs.lemmas.List.{ext_get_or}
 use Rattle.std.proofs.lemmas.Bool.{ltb-false, or_parts}
 use Rattle.mask.specs.Kinds.{Tells}
 use Rattle.words.specs.declared.table.Table.{Table}
-use Rattle.words.specs.Bits.{bit, holds}
+use Rattle.words.specs.Bits.{holds}
 use Rattle.words.specs.Rows.{changed, entered, left}
 use Rattle.words.specs.Tables.{look, second_table}
 use Rattle.words.proofs.Bitwise.{same_bits}

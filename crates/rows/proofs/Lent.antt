@@ -1,5 +1,5 @@
 -- A Vec whose words were lent as a row and came back written, and what a set is asked.
-use Rattle.std.proofs.Common.{◌≡◌, ℕ, ◌+◌, ◌-◌, ◌*◌, ◌%◌, ◌^◌, ◌<◌, ◌≤◌, Bool, true, false, cond, eqb, List, ◌++◌, length, get_or, take, drop, replicate, Some, None, vec_items, Option, Vec, sym, refl, ap, ◌∙◌, subst, ap₂, inl, inr, true≢false, zero-add, arith}
+use Rattle.std.proofs.Common.{◌≡◌, ℕ, ◌+◌, ◌-◌, ◌*◌, ◌%◌, ◌^◌, ◌<◌, ◌≤◌, Bool, false, cond, eqb, List, ◌++◌, length, get_or, take, drop, replicate, Some, None, vec_items, Option, Vec, sym, ap, ◌∙◌, subst, inl, inr, true≢false, zero-add, arith}
 use Rattle.std.specs.Vec.{with_items}
 use Rattle.std.proofs.lemmas.List.{with_items_is, drop_at, length-replicate, get_or-drop, length-drop, length-take-le, ext_get_or}
 use Rattle.std.proofs.lemmas.Bool.{cases_lt, ne_eqb}

@@ -1,17 +1,13 @@
 -- A loop that writes a row anew, word by word, and counts the bits that come and go.
-use Rattle.std.proofs.Common.{◌≡◌, ℕ, zero, suc, ◌+◌, ◌-◌, ◌*◌, ◌/◌, ◌%◌, ◌^◌, ◌<◌, ◌≤◌, Bool, true, false, not, ◌&&◌, ltb, ◌≢◌, ◌⊎◌, List, [], ◌∷◌, length, get_or, set, sym, refl, ap, ◌∙◌, subst, ap₂, inl, inr, add-zero, add_assoc, zero-add, arith}
-use lib.Bits.{bit_and, and_lt}
-use lib.Count.{ones}
-use lib.Pow.{ones_sub-lt}
+use Rattle.std.proofs.Common.{◌≡◌, ℕ, ◌+◌, ◌*◌, ◌/◌, ◌%◌, ◌^◌, ◌<◌, ◌≤◌, Bool, true, false, ◌&&◌, ltb, List, length, get_or, set, sym, refl, ap, ◌∙◌, subst, ap₂, inl, inr, zero-add, arith}
 use Rattle.std.proofs.lemmas.List.{get_or-set_same, get_or-set_other, length-set}
 use Rattle.std.proofs.lemmas.Bool.{cases_eq, le-ltb, lt-ltb, and_right}
-use Rattle.words.specs.Bits.{one, bit, holds, tally, words_for}
+use Rattle.words.specs.Bits.{bit, holds, tally, words_for}
 use Rattle.words.specs.Rows.{enters}
 use Rattle.mask.specs.Machine.{gained}
-use Rattle.rows.specs.Members.{tab, gain, Becomes, Fit, Clean}
+use Rattle.rows.specs.Members.{tab, gain, Becomes, Clean}
 use Rattle.words.proofs.Tallies.{tally_add, tally_same, tally_trim}
 use Rattle.rows.proofs.Tabs.{tally_cap, enters_none, tab_same, gained-tab}
-use Rattle.words.proofs.Bitwise.{bit-bit_and, bit_not, ones_tally}
 use Rattle.words.proofs.RowBits.{holds_word, holds-set_other, holds-set_same}
 
 -- ---- the loop's invariant: the words below j are written, and the others are as they were

@@ -1,7 +1,5 @@
 -- Laws of a row of words.
-use Rattle.std.proofs.Common.{◌≡◌, ℕ, zero, suc, ◌+◌, ◌-◌, ◌*◌, ◌/◌, ◌%◌, ◌^◌, ◌<◌, ◌≤◌, min, Bool, true, false, cond, not, ◌&&◌, ◌||◌, eqb, ltb, ◌≢◌, ◌⊎◌, List, [], ◌∷◌, ◌++◌, map, length, get_or, take, drop, set, replicate, sym, refl, ap, ◌∙◌, subst, ap₂, inl, inr, arith, lit<, pow_pos, pow_mono}
-use lib.Bits.{bit_and, bit_or, and_mask}
-use lib.Pow.{pow-lt}
+use Rattle.std.proofs.Common.{◌≡◌, ℕ, ◌+◌, ◌-◌, ◌*◌, ◌/◌, ◌%◌, ◌^◌, ◌<◌, ◌≤◌, min, Bool, false, cond, eqb, ltb, List, ◌∷◌, ◌++◌, map, length, get_or, take, drop, set, replicate, sym, ap, ◌∙◌, ap₂, inl, inr, arith, lit<, pow_pos, pow_mono}
 use Rattle.std.specs.List.{range_with_len}
 use Rattle.std.proofs.lemmas.List.FromFn.{length-map-range_with_len, get_or-map-range_with_len}
 use Rattle.std.proofs.lemmas.List.{get_or_append_left, length-replicate, get_or-replicate, get_or-take, length-take-le, ext_get_or, get_or-set_same, get_or-set_other, length-set}
@@ -10,7 +8,7 @@ use Rattle.std.proofs.lemmas.Bool.Decides.{nat_tests}
 use Rattle.words.specs.Bits.{bit, holds, words_for}
 use Rattle.rows.specs.Members.{tab, Fit, Clean}
 use Rattle.words.proofs.RowBits.{holds_word}
-use Rattle.words.proofs.Bitwise.{bit_none, bit-bit_and, bit-bit_or, bit_not, bit-pow, bit_ones, same_bits}
+use Rattle.words.proofs.Bitwise.{bit_none, bit_ones, same_bits}
 use Rattle.rows.proofs.Tabs.{tab_is, tab_same, length-tab, get_or-tab}
 
 -- ---- a row that begins with zeros

@@ -1,12 +1,11 @@
 -- The lowest set bit of a row at or after an index.
-use Rattle.std.proofs.Common.{◌≡◌, ℕ, ◌+◌, ◌-◌, ◌*◌, ◌/◌, ◌%◌, ◌^◌, ◌<◌, ◌≤◌, Bool, true, false, not, ◌&&◌, ltb, List, length, get_or, sym, refl, ap, ◌∙◌, inl, inr, arith, pow_pos}
+use Rattle.std.proofs.Common.{◌≡◌, ℕ, ◌+◌, ◌-◌, ◌*◌, ◌^◌, ◌<◌, ◌≤◌, Bool, true, false, not, ◌&&◌, ltb, List, length, get_or, sym, refl, ap, ◌∙◌, inl, inr, arith}
 use lib.Bits.{bit_and}
 use lib.Pow.{pow-lt}
-use Rattle.std.proofs.lemmas.Bool.{cases_lt, and_parts, not-true, not_from_false, ltb-false, le-ltb}
+use Rattle.std.proofs.lemmas.Bool.{cases_lt, and_parts, not-true, ltb-false, le-ltb}
 use Rattle.words.specs.Bits.{bit, holds, Low}
 use Rattle.words.proofs.Bitwise.{bit-bit_and, bit_not, bit_ones, bit_none}
 use Rattle.words.proofs.RowBits.{holds_word}
-use Rattle.rows.specs.Members.{Lowest}
 
 -- `w & !((1 << m) - 1)` has the bits of w from m on
 pub bit_from : (w m k : ℕ) → m < 64 → k < 64 → bit (bit_and w (2 ^ 64 - 1 - (2 ^ m - 1))) k ≡ (bit w k && not (ltb k m))

@@ -95,7 +95,7 @@ pub fn combine_row<O: Operator>(
     requires other_enough { words_for domain ≤ length other.now }
     requires fit { Fit domain own.old }
     requires clean { Clean domain own.old }
-    ensures { Becomes (λ i. look (table op.now) (holds own.old i) (holds other.now i)) domain own.old own.new result }
+    ensures { Becomes (λ i. look (O.table op.now) (holds own.old i) (holds other.now i)) domain own.old own.new result }
 {
     let whole = domain / WORD_BITS;
     let (entered, left) = update_words(&mut own[0..whole], &other[0..whole], op);

@@ -1,4 +1,4 @@
-use Rattle.std.proofs.Common.{◌≡◌, ◌<◌, length, set, vec_items, ap, ◌∙◌, arith}
+use Rattle.std.proofs.Common.{◌<◌, length, set, vec_items, ap, ◌∙◌, arith}
 use Rattle.std.proofs.lemmas.List.Edits.{fill_more}
 use Rattle.rows.proofs.clear_words.Goals as goal
 

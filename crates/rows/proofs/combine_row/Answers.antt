@@ -1,7 +1,7 @@
 -- Whole words are combined at once, and the last one without the bits past the domain.
-use Rattle.std.proofs.Common.{◌≡◌, ℕ, ◌+◌, ◌-◌, ◌*◌, ◌/◌, ◌%◌, ◌^◌, ◌<◌, ◌≤◌, Bool, ◌&&◌, List, ◌++◌, length, get_or, drop, set, sym, refl, ap, ◌∙◌, subst, ap₂, le_refl, arith}
+use Rattle.std.proofs.Common.{◌≡◌, ℕ, ◌+◌, ◌-◌, ◌*◌, ◌/◌, ◌<◌, ◌≤◌, Bool, ◌&&◌, List, ◌++◌, get_or, drop, set, sym, ap, ◌∙◌, ap₂, le_refl, arith}
 use lib.Bits.{bit_and, and_lt}
-use Rattle.words.specs.Bits.{bit, holds, words_for}
+use Rattle.words.specs.Bits.{bit, holds}
 use Rattle.words.specs.declared.table.Table.{Table}
 use Rattle.words.specs.Tables.{look}
 use Rattle.words.proofs.Bitwise.{bit-bit_and}

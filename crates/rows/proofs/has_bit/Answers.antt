@@ -1,7 +1,7 @@
 -- The mask lets the index's bit through alone.
-use Rattle.std.proofs.Common.{◌≡◌, ◌/◌, ◌%◌, not, eqb, get_or, sym, ap, ◌∙◌, ap₂, arith}
+use Rattle.std.proofs.Common.{◌/◌, ◌%◌, not, eqb, get_or, ◌∙◌, ap₂, arith}
 use lib.Bits.{bit_and}
-use Rattle.words.specs.Bits.{bit, holds}
+use Rattle.words.specs.Bits.{holds}
 use Rattle.words.proofs.Bitwise.{and_pow}
 use Rattle.rows.proofs.has_bit.Goals as goal
 

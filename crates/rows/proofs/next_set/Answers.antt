@@ -1,5 +1,5 @@
 -- Every word before the answer's has no set bit from `from` on.
-use Rattle.std.proofs.Common.{◌≡◌, ℕ, ◌+◌, ◌-◌, ◌*◌, ◌/◌, ◌%◌, ◌^◌, ◌<◌, not, ◌&&◌, ltb, List, length, get_or, sym, refl, ap, ◌∙◌, ap₂, arith}
+use Rattle.std.proofs.Common.{◌≡◌, ℕ, ◌-◌, ◌/◌, ◌%◌, ◌^◌, ◌<◌, not, ◌&&◌, ltb, List, get_or, ap, ◌∙◌, arith}
 use lib.Bits.{bit_and}
 use Rattle.words.specs.Bits.{bit}
 use Rattle.rows.proofs.Seeking.{bit_from, first_none, first_some, word_none, word_some}

@@ -1,4 +1,4 @@
-use Rattle.std.proofs.Common.{◌≡◌, ℕ, ◌-◌, ◌^◌, ◌<◌, arith}
+use Rattle.std.proofs.Common.{ℕ, ◌-◌, ◌^◌, ◌<◌, arith}
 use lib.Bits.{bit_and, and_lt}
 use lib.Pow.{ones_sub-lt}
 use lib.Count.{ones, ones-le}
