@@ -3,7 +3,7 @@
 --   room, any_rule, behind                                 of memory that is handed over for a domain
 --   Superset                                               every member of the second set is one of the first
 --   Compared                                               what superset answers
-use Rattle.std.specs.Prelude.{◌≡◌, ℕ, Bool, true, false, cond, List, ◌∷◌, take, drop, Ok, Err, vec_items, vec_len, Result, Vec, ◌≢◌, nat_le, slice_index_or}
+use Rattle.std.specs.Prelude.{◌≡◌, ℕ, Bool, true, false, List, ◌∷◌, take, drop, Ok, Err, vec_items, vec_len, Result, Vec, ◌≢◌, nat_le, slice_index_or}
 use Rattle.index.specs.declared.refusal.Refusal.{Refusal}
 use Rattle.index.specs.declared.refusal.Refusal.TheVariants.{Domains}
 use Rattle.mask.specs.Kinds.{Tells}

@@ -36,7 +36,7 @@ impl DenseBitSet {
         op: &O,
         other: &DenseBitSet,
     ) -> Result<(usize, usize), Refusal>
-        ensures machine { Answered domain_of rule_of members_of self.old (combine (table op.now) (domain_of other.now) (members_of other.now)) result self.new }
+        ensures machine { Answered domain_of rule_of members_of self.old (combine (O.table op.now) (domain_of other.now) (members_of other.now)) result self.new }
         ensures kept { Kept domain_of rule_of spare_of self.old self.new }
     {
         if self.domain_size != other.domain_size {

@@ -8,7 +8,7 @@ use index::{Idx, Refusal};
 impl DenseBitSet {
     // Whether the index is a member; one past the domain is none.
     pub fn contains_loose<T: Idx>(&self, elem: T) -> bool
-        ensures { result ≡ slice_index_or (members_of self.now) (place elem) false }
+        ensures { result ≡ slice_index_or (members_of self.now) (T.place elem) false }
     {
         self.has_loose(elem.index())
     }

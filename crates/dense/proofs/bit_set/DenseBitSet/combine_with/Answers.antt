@@ -1,14 +1,13 @@
 -- Each bit below the domain goes through the operator's table.
-use Rattle.std.proofs.Common.{◌≡◌, ℕ, Bool, vec_items, sym, refl, ap, ◌∙◌, ap₂}
+use Rattle.std.proofs.Common.{vec_items, sym, refl, ap, ◌∙◌, ap₂}
 use Rattle.mask.specs.Machine.{through}
 use Rattle.words.specs.Bits.{holds}
 use Rattle.words.specs.Tables.{look}
-use Rattle.rows.specs.Members.{tab, Becomes}
+use Rattle.rows.specs.Members.{tab}
 use Rattle.rows.proofs.Lent.{lent_becomes, becomes_behind}
 use Rattle.rows.proofs.Loops.{becomes_members, becomes_came, becomes_went}
 use Rattle.mask.proofs.Steps.{combine_in, combine_out}
 use Rattle.rows.proofs.Tabs.{through-tab}
-use Rattle.dense.proofs.bit_set.DenseBitSet.combine_with.Given as given
 use Rattle.dense.proofs.bit_set.DenseBitSet.combine_with.Goals as goal
 
 pub returns-then-self-other : goal.returns-then-self-other
@@ -20,7 +19,7 @@ invariant_of-self g c =
     let s = c.args.self.now in
     let b = lent_becomes s.words c.deref_mut.result.now c.combine_row.new.own c.deref_mut.ensures.value _ (λ i. look t (holds (vec_items s.words) i) (holds (vec_items c.args.other.now.words) i)) _ _
     (λ i h. ap₂ (λ x y. look t (holds x i) (holds y i)) c.deref_mut.ensures.value c.deref.ensures.value) c.combine_row.ensures in
-    (s.enough, (b.fit, (b.clean, tt)))
+    record { enough = s.enough; fit = b.fit; clean = b.clean }
 
 pub returns : goal.returns
 returns g c =

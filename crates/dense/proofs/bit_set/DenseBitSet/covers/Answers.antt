@@ -1,5 +1,5 @@
 -- A union brings nothing in exactly where the set holds every member of the other.
-use Rattle.std.proofs.Common.{◌≡◌, ℕ, ◌-◌, ◌≤◌, not, List, length, take, vec_items, sym, ap, ◌∙◌, subst, ap₂, arith}
+use Rattle.std.proofs.Common.{◌≡◌, ℕ, ◌-◌, ◌≤◌, not, length, take, vec_items, ap, ◌∙◌, subst, ap₂, arith}
 use Rattle.mask.specs.Kinds.{Tells}
 use Rattle.words.specs.Bits.{holds, words_for}
 use Rattle.words.specs.Rows.{changed, entered, left}

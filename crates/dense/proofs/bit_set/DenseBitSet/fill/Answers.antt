@@ -1,5 +1,5 @@
 -- Every bit below the domain is written alike.
-use Rattle.std.proofs.Common.{◌≡◌, refl, ◌∙◌}
+use Rattle.std.proofs.Common.{refl, ◌∙◌}
 use Rattle.rows.proofs.Lent.{lent_becomes, becomes_behind}
 use Rattle.rows.proofs.Loops.{becomes_members, becomes_came, becomes_went}
 use Rattle.mask.proofs.Steps.{fill_in}
@@ -10,7 +10,7 @@ pub invariant_of-self : goal.invariant_of-self
 invariant_of-self c =
     let s = c.args.self.now in
     let b = lent_becomes s.words c.deref_mut.result.now c.fill_row.new.own c.deref_mut.ensures.value _ (λ _. c.args.on) _ _ (λ i h. refl) c.fill_row.ensures in
-    (s.enough, (b.fit, (b.clean, tt)))
+    record { enough = s.enough; fit = b.fit; clean = b.clean }
 
 pub returns : goal.returns
 returns c =

@@ -1,5 +1,5 @@
 -- The bit at the index is the member's place.
-use Rattle.std.proofs.Common.{◌≡◌, ◌<◌, Ok, vec_items, sym, ap, ◌∙◌, arith}
+use Rattle.std.proofs.Common.{◌<◌, Ok, vec_items, sym, ap, ◌∙◌, arith}
 use Rattle.std.proofs.lemmas.Bool.{cond_below}
 use Rattle.words.specs.Bits.{holds}
 use Rattle.rows.proofs.Tabs.{get_or-tab}

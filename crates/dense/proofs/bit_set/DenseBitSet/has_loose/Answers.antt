@@ -1,5 +1,5 @@
 -- The bit at the index is the member's place, and past the domain there is none.
-use Rattle.std.proofs.Common.{◌≡◌, ◌<◌, vec_items, sym, ap, ◌∙◌, arith}
+use Rattle.std.proofs.Common.{◌<◌, vec_items, sym, ap, ◌∙◌, arith}
 use Rattle.std.proofs.lemmas.Bool.{le-ltb}
 use Rattle.words.specs.Bits.{holds}
 use Rattle.rows.proofs.Tabs.{get_or-tab, get_or-tab_past}

@@ -1,5 +1,5 @@
 -- The lowest set bit of the set's own words is its lowest member.
-use Rattle.std.proofs.Common.{◌≡◌, ℕ, ◌-◌, ◌*◌, List, length, take, vec_items, sym, ◌∙◌, subst, ap₂, arith}
+use Rattle.std.proofs.Common.{◌≡◌, ℕ, ◌-◌, ◌*◌, List, length, take, vec_items, subst, ap₂, arith}
 use Rattle.words.specs.Bits.{holds, words_for}
 use Rattle.rows.specs.Members.{Lowest}
 use Rattle.rows.proofs.Lent.{row_next}

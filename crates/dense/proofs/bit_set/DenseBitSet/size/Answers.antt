@@ -1,5 +1,5 @@
 -- The set bits of the set's own words are its members.
-use Rattle.std.proofs.Common.{◌≡◌, ℕ, ◌-◌, ◌%◌, ◌^◌, take, vec_items, sym, ap, ◌∙◌, ap₂, arith}
+use Rattle.std.proofs.Common.{◌≡◌, ◌-◌, ◌%◌, ◌^◌, take, vec_items, ◌∙◌, ap₂, arith}
 use Rattle.words.specs.Bits.{set_bits, words_for}
 use Rattle.rows.proofs.Lent.{row_count}
 use Rattle.dense.proofs.bit_set.DenseBitSet.size.Goals as goal

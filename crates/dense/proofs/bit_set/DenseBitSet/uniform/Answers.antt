@@ -1,6 +1,5 @@
 -- The words are cleared, and then filled as asked.
-use Rattle.std.proofs.Common.{◌≡◌, ℕ, ◌≤◌, List, ◌++◌, length, drop, replicate, vec_items, vec_len, sym, refl, ap, ◌∙◌, subst, arith}
-use Rattle.std.proofs.lemmas.List.{length-replicate}
+use Rattle.std.proofs.Common.{◌≡◌, ◌++◌, drop, replicate, vec_items, vec_len, refl, ap, ◌∙◌, arith}
 use Rattle.std.proofs.lemmas.Bool.{le-leb}
 use Rattle.words.specs.Bits.{words_for}
 use Rattle.rows.proofs.Lent.{lent_becomes, becomes_behind, blank_behind}
@@ -18,7 +17,7 @@ fill_row-requires c =
 pub invariant_of-result : goal.invariant_of-result
 invariant_of-result c =
     let b = lent_becomes c.clear_words.new.words c.deref_mut.result.now c.fill_row.new.own c.deref_mut.ensures.value _ (λ _. c.args.full) _ _ (λ i h. refl) c.fill_row.ensures in
-    (omega (arith, c.clear_words.ensures.len, c.len.ensures, c.num_words-n.ensures), (b.fit, (b.clean, tt)))
+    record { enough = omega (arith, c.clear_words.ensures.len, c.len.ensures, c.num_words-n.ensures); fit = b.fit; clean = b.clean }
 
 pub returns : goal.returns
 returns c =

@@ -1,5 +1,5 @@
 -- One bit of one word is written, and it is the index's.
-use Rattle.std.proofs.Common.{◌≡◌, ◌<◌, Bool, cond, not, vec_items, sym, refl, ap, ◌∙◌, arith}
+use Rattle.std.proofs.Common.{◌<◌, cond, not, vec_items, sym, refl, ap, ◌∙◌, arith}
 use Rattle.words.specs.Bits.{holds}
 use Rattle.rows.proofs.Lent.{lent_write, lent_write_fit, lent_write_behind}
 use Rattle.rows.proofs.RowWords.{put_members, put_clean}
@@ -17,7 +17,7 @@ invariant_of-self c =
     let inside : c.args.index < s.domain_size = omega arith in
     let at = lent_write s.words row c.write_bit-turned.new.words c.deref_mut.ensures.value s.domain_size c.args.index c.args.on inside c.write_bit-turned.ensures.row in
     let fit = lent_write_fit s.words row c.write_bit-turned.new.words c.deref_mut.ensures.value s.domain_size c.args.index c.args.on inside c.write_bit-turned.ensures.row in
-    (s.enough, (fit s.fit, (put_clean s.domain_size c.args.index _ _ c.args.on inside at s.clean, tt)))
+    record { enough = s.enough; fit = fit s.fit; clean = put_clean s.domain_size c.args.index _ _ c.args.on inside at s.clean }
 
 pub returns : goal.returns
 returns c =
