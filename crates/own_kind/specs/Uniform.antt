@@ -1,5 +1,5 @@
 -- Sets whose places are all alike.
-use Rattle.std.specs.Prelude.{◌≡◌, ℕ, zero, suc, ◌+◌, ◌<◌, ◌≤◌, Bool, true, false, cond, ◌&&◌, List, [], ◌∷◌, length, get_or, set, replicate, Some, None, Ok, Err, ◌==◌, ◌≢◌, nat_lt, slice_index_or, slice_set}
+use Rattle.std.specs.Prelude.{◌≡◌, ℕ, zero, suc, ◌+◌, ◌<◌, ◌≤◌, Bool, true, false, cond, ◌&&◌, List, [], ◌∷◌, length, get_or, replicate, Some, None, Ok, Err, ◌==◌, ◌≢◌, nat_lt, slice_index_or, slice_set}
 use Rattle.std.specs.Bool.{beq}
 use Rattle.std.proofs.Common.{inl, inr, sym, ap₂, ◌∙◌, zero-add, arith}
 use Rattle.std.proofs.Math.Path.{refl, ap, subst}

@@ -124,7 +124,7 @@ impl AllOrNothing {
         op: &O,
         other: &AllOrNothing,
     ) -> Result<(usize, usize), Refusal>
-        ensures machine { Answered domain_of rule_of members_of self.old (combine (table op.now) (domain_of other.now) (members_of other.now)) result self.new }
+        ensures machine { Answered domain_of rule_of members_of self.old (combine (O.table op.now) (domain_of other.now) (members_of other.now)) result self.new }
         ensures kept { Kept domain_of rule_of spare_of self.old self.new }
     {
         if self.domain_size != other.domain_size {

@@ -28,7 +28,7 @@ fn bit_zero(word: Word) -> bool
 
 // The operator's table at two flags. An operator takes words, so bit 0 of each stands for its flag.
 pub(crate) fn looked_up<O: Operator>(op: &O, own: bool, operand: bool) -> bool
-    ensures { result ≡ look (table op.now) own operand }
+    ensures { result ≡ look (O.table op.now) own operand }
 {
     bit_zero(op.apply(flag_word(own), flag_word(operand)))
 }
