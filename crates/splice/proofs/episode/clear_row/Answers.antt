@@ -9,5 +9,5 @@ made_both (Err y) P Q R f p q = tt
 pub returns : goal.returns
 returns c =
     made_both c.vec.result _ _ _
-    (λ v p q. (p.1 ∙ c.num_words.ensures, q (λ y e. e) ∙ ap (λ (n : ℕ). replicate n 0) c.num_words.ensures))
-    c.vec.ensures.made c.vec.ensures.exact
+    (λ v p q. (p ∙ c.num_words.ensures, q (λ y e. e) ∙ ap (λ (n : ℕ). replicate n 0) c.num_words.ensures))
+    c.vec.ensures.len c.vec.ensures.items_if_clones_equal

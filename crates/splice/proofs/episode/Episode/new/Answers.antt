@@ -6,7 +6,7 @@ use Rattle.splice.proofs.episode.Episode.new.Goals as goal
 
 pub invariant_of-result : goal.invariant_of-result
 invariant_of-result c =
-    (omega arith, (c.in-Ok.ensures.0, ((λ i l. ap (λ ws. holds ws i) c.in-Ok.ensures.1 ∙ holds_none (words_for c.args.samples) i), tt)))
+    record { small = omega arith; rows = c.in-Ok.ensures.0; ends = λ i l. ap (λ ws. holds ws i) c.in-Ok.ensures.1 ∙ holds_none (words_for c.args.samples) i }
 
 pub returns : goal.returns
 returns c = (refl, c.in-Ok.ensures.1, c.in-Ok-clear_row.ensures.1, c.new.ensures.items)

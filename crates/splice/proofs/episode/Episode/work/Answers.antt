@@ -11,17 +11,13 @@ invariant_of-self-2 c =
     let new = c.combine-entered.new.mask in
     let row = c.combine-entered.ensures in
     let final : vec_items (with_items e.mask new) ≡ new = with_items_is e.mask new (row.long ∙ c.deref_mut.ensures.len) in
-    let all = combined_at c.combine-entered.result.0 c.combine-entered.result.1 c.deref_mut.ensures.value c.deref.ensures.value (sym final) row in (
-      e.small,
-      (
-        e.rows,
-        (
-          worked_ends c.args.step e.samples (vec_items e.mask) (vec_items c.in-Ok.advert) (vec_items (with_items e.mask new)) c.combine-entered.result.0 c.combine-entered.result.1 all
-              c.in-Ok.ensures.1 c.in_ok-check.ensures.1 e.ends,
-          tt,
-        ),
-      ),
-    )
+    let all = combined_at c.combine-entered.result.0 c.combine-entered.result.1 c.deref_mut.ensures.value c.deref.ensures.value (sym final) row in
+    record {
+      small = e.small;
+      rows = e.rows;
+      ends = worked_ends c.args.step e.samples (vec_items e.mask) (vec_items c.in-Ok.advert) (vec_items (with_items e.mask new)) c.combine-entered.result.0 c.combine-entered.result.1 all
+          c.in-Ok.ensures.1 c.in_ok-check.ensures.1 e.ends;
+    }
 
 pub returns : goal.returns
 returns c =
