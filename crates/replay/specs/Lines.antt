@@ -6,7 +6,7 @@
 --   Spelt       a call's name, the number after its mask's and the word after that, where there are such
 --   Reads       what is read is written so, and where nothing is read, no call is
 --   Says        what five words say: a call's name, a mask's number, a number, a word, and one too many
-use Rattle.std.specs.Prelude.{◌≡◌, ℕ, ◌^◌, ◌<◌, ◌≤◌, Bool, true, false, cond, List, [], ◌∷◌, Some, None, codes, Option}
+use Rattle.std.specs.Prelude.{◌≡◌, ℕ, ◌^◌, ◌<◌, ◌≤◌, Bool, cond, List, [], ◌∷◌, Some, None, codes, Option}
 use Rattle.std.specs.Option.{SomeIff}
 use Rattle.std.specs.Str.Parse.{IsNumeral, digits_value, without_leading_plus}
 use Rattle.words.specs.declared.table.Table.{Table}

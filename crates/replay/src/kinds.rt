@@ -141,7 +141,7 @@ fn dense_picture(heap: Global, domain: usize, memory: &[Word]) -> Result<Answer,
     ensures { MatchResult result (Pictured domain memory.now) (λ e. e ≡ Memory) }
 {
     let (words, spare) = memory.split_at(num_words(domain));
-    if spare != &SPARE {
+    if spare != SPARE.as_slice() {
         return Ok(Answer::Spoilt);
     }
     let mut numbers = vec![in heap; domain]?;

@@ -15,7 +15,7 @@ use std::alloc::Global;
 
 // A mask with every index of its domain or none.
 pub fn make_mask<M: Mask>(domain_size: usize, memory: M::Memory, full: bool) -> Result<M, Refusal>
-    ensures { MatchResult result (λ m. (domain m ≡ domain_size) × (members m ≡ replicate domain_size full)) (λ e. (suffices domain_size memory ≡ false) × (e ≡ Memory)) }
+    ensures { MatchResult result (λ m. (M.domain m ≡ domain_size) × (M.members m ≡ replicate domain_size full)) (λ e. (M.suffices domain_size memory ≡ false) × (e ≡ Memory)) }
 {
     let made = if full {
         M::new_filled(domain_size, memory)
@@ -30,7 +30,7 @@ pub fn make_mask<M: Mask>(domain_size: usize, memory: M::Memory, full: bool) -> 
 
 // Another mask of the same domain and members.
 pub fn copy_mask<M: Mask>(mask: &M, memory: M::Memory) -> Result<M, Refusal>
-    ensures { IfOk result (λ m. (domain m ≡ domain mask.now) × (members m ≡ members mask.now)) }
+    ensures { IfOk result (λ m. (M.domain m ≡ M.domain mask.now) × (M.members m ≡ M.members mask.now)) }
 {
     let mut copy: M = make_mask(mask.domain_size(), memory, false)?;
     match copy.clone_from(mask) {
@@ -43,8 +43,8 @@ pub fn copy_mask<M: Mask>(mask: &M, memory: M::Memory) -> Result<M, Refusal>
 }
 
 pub fn change_mask<M: Mask>(mask: &mut M, change: Change) -> Result<(usize, usize), Refusal>
-    ensures machine { Answered domain rule members mask.old (moved change) result mask.new }
-    ensures kept { Kept domain rule spare mask.old mask.new }
+    ensures machine { Answered M.domain M.rule M.members mask.old (moved change) result mask.new }
+    ensures kept { Kept M.domain M.rule M.spare mask.old mask.new }
 {
     match change {
         Change::Insert(index) => mask.insert(index),
@@ -59,8 +59,8 @@ pub fn combine_masks<M: Mask>(
     combination: Combination,
     other: &M,
 ) -> Result<(usize, usize), Refusal>
-    ensures machine { Answered domain rule members mask.old (combine (table_of combination) (domain other.now) (members other.now)) result mask.new }
-    ensures kept { Kept domain rule spare mask.old mask.new }
+    ensures machine { Answered M.domain M.rule M.members mask.old (combine (table_of combination) (M.domain other.now) (M.members other.now)) result mask.new }
+    ensures kept { Kept M.domain M.rule M.spare mask.old mask.new }
 {
     match combination {
         Combination::Union => mask.union(other),
@@ -73,7 +73,7 @@ pub fn combine_masks<M: Mask>(
 }
 
 pub fn ask_mask<M: Mask>(heap: Global, mask: &M, question: Question) -> Result<Answer, Fault>
-    ensures { Asked (domain mask.now) (members mask.now) question result }
+    ensures { Asked (M.domain mask.now) (M.members mask.now) question result }
 {
     match question {
         Question::Contains(index) => Ok(Answer::Flag(mask.contains(index)?)),

@@ -7,7 +7,7 @@ one_more n i words old new h done pushed = let more = take_more words i 0 h in c
 
 pub loop-word-preserved : goal.loop-word-preserved
 loop-word-preserved c =
-    one_more c.args.domain c.loop-word.word_index c.split_at.result.0.now _ _ c.loop-word-test.true c.loop-word.invariant c.in_ok-push.ensures.items
+    one_more c.args.domain c.loop-word.word-index c.split_at.result.0.now _ _ c.loop-word-test.true c.loop-word.invariant c.in_ok-push.ensures.items
 
 pub returns : goal.returns
-returns c = let all = take_all c.loop-word.word_index c.split_at.result.0.now c.loop-word-test.false in cc
+returns c = let all = take_all c.loop-word.word-index c.split_at.result.0.now c.loop-word-test.false in cc
