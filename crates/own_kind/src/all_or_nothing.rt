@@ -4,9 +4,9 @@ ghost use Rattle.mask.specs.Kinds.{Answered, Kept, Shows, Tells};
 ghost use Rattle.mask.specs.Machine.{insert, remove, clear, insert_all, combine, contained, count, gained, next_member};
 ghost use Rattle.own_kind.specs.Meaning.{domain_of, members_of, rule_of, picture_of, spare_of};
 
-use crate::flags::{entering, looked_up};
+use crate::flags::{entering, looked_up, word_below};
 use index::Refusal;
-use words::{Operator, Word, word_below};
+use words::{Operator, Word};
 
 // A mask that is empty or full: one flag for all of its indices.
 // Over no index the empty and the full set are one, and the flag says nothing.

@@ -1,5 +1,5 @@
 // What one flag says of many indices.
-ghost use Rattle.std.specs.Prelude.{◌≡◌, replicate};
+ghost use Rattle.std.specs.Prelude.{◌≡◌, ℕ, ◌+◌, ◌*◌, ◌<◌, replicate, nat_lt};
 ghost use Rattle.mask.specs.Machine.{gained};
 ghost use Rattle.words.specs.Bits.{bit};
 ghost use Rattle.words.specs.Tables.{look};
@@ -24,6 +24,13 @@ fn bit_zero(word: Word) -> bool
     ensures { result ≡ bit word 0 }
 {
     word % 2 == 1
+}
+
+// The bits of word `k` of a row that stand below `n`.
+pub(crate) fn word_below(n: usize, k: usize) -> Word
+    ensures { (b : ℕ) → b < 64 → bit result b ≡ nat_lt (64 * k + b) n }
+{
+    words::word_below(n, k)
 }
 
 // The operator's table at two flags. An operator takes words, so bit 0 of each stands for its flag.

@@ -2,7 +2,7 @@
 // These calls are inner: the sets above see to it that an index lies in the row and a row reaches its domain.
 #![tactic(auto)]
 
-ghost use Rattle.std.specs.Prelude.{◌≡◌, ℕ, ◌+◌, ◌*◌, ◌/◌, ◌^◌, ◌<◌, ◌≤◌, Bool, true, false, not, ◌++◌, length, drop, replicate, if◌then◌else◌, vec_len};
+ghost use Rattle.std.specs.Prelude.{◌≡◌, ℕ, ◌+◌, ◌*◌, ◌/◌, ◌^◌, ◌<◌, ◌≤◌, Bool, true, false, not, ◌++◌, length, drop, replicate, if◌then◌else◌, vec_len, nat_lt};
 ghost use Rattle.rows.specs.Members.{Becomes, Fit, Clean, Lowest};
 ghost use Rattle.words.specs.Bits.{bit, holds, one, tally, words_for};
 ghost use Rattle.words.specs.Rows.{Rewritten, put, enters};
@@ -52,6 +52,14 @@ pub fn report_one(turned: bool, on: bool) -> (usize, usize)
     }
 }
 
+// The bits of word `j` that stand below `domain`.
+pub(crate) fn mask_at(domain: usize, j: usize) -> Word
+    requires { 64 * j < domain }
+    ensures { (k : ℕ) → k < 64 → bit result k ≡ nat_lt (64 * j + k) domain }
+{
+    word_below(domain, j)
+}
+
 // How many bits come and how many go from `old` to `new`.
 pub fn turned(old: Word, new: Word) -> (usize, usize)
     ensures came { result.0 ≡ tally (λ k. enters (bit old k) (bit new k)) 0 64 }
@@ -74,7 +82,7 @@ pub fn fill_row(own: &mut [Word], domain: usize, on: bool) -> (usize, usize)
     let mut went = 0;
     for j in 0..n {
         let old = own[j];
-        let mask = word_below(domain, j);
+        let mask = mask_at(domain, j);
         let new = if on { mask } else { 0 };
         let (c, w) = turned(old, new);
         own[j] = new;
@@ -104,7 +112,7 @@ pub fn combine_row<O: Operator>(
     }
     // Bits past the domain would count and would stay, so the last word goes by itself.
     let old = own[whole];
-    let new = op.apply(old, other[whole]) & word_below(domain, whole);
+    let new = op.apply(old, other[whole]) & mask_at(domain, whole);
     own[whole] = new;
     let (came, went) = turned(old, new);
     (entered + came, left + went)

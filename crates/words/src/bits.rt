@@ -1,5 +1,5 @@
 // Words and their bits.
-ghost use Rattle.std.specs.Prelude.{◌≡◌, ℕ, ◌+◌, ◌*◌, ◌/◌, ◌%◌, ◌^◌, ◌<◌, ltb, Some, nat_lt};
+ghost use Rattle.std.specs.Prelude.{◌≡◌, ℕ, ◌+◌, ◌*◌, ◌/◌, ◌%◌, ◌^◌, ◌<◌, Some, nat_lt};
 ghost use Rattle.words.specs.Bits.{bit, words_for, set_bits, Highest, Least};
 
 use crate::{WORD_BITS, Word};
@@ -78,7 +78,7 @@ fn low_bits(count: usize) -> Word
 
 // The bits of word `k` of a row that stand below a domain.
 pub fn word_below(domain_size: usize, k: usize) -> Word
-    ensures { (b : ℕ) → b < 64 → bit result b ≡ ltb (64 * k + b) domain_size }
+    ensures { (b : ℕ) → b < 64 → bit result b ≡ nat_lt (64 * k + b) domain_size }
 {
     low_bits(domain_size.saturating_sub(k.saturating_mul(WORD_BITS)))
 }

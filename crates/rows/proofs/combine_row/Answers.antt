@@ -41,7 +41,7 @@ module _ (g : given.Over) (c : goal.After-turned-came g) where
   cur = c.update_words-entered.new.lhs ++ drop (n / 64 - 0) own
 
   abbrev new : ℕ
-  new = bit_and c.apply.result c.word_below.result
+  new = bit_and c.apply.result c.mask_at.result
 
   whole : Done (under f n) own cur (n / 64) c.update_words-entered.result.0 c.update_words-entered.result.1
   whole =
@@ -55,12 +55,12 @@ module _ (g : given.Over) (c : goal.After-turned-came g) where
   new_bit k h =
       let mine : bit (get_or cur (n / 64) 0) k ≡ holds own (64 * (n / 64) + k) = ap (λ x. bit x k) old_is ∙ sym (holds_word own (n / 64) k h) in
       let theirs : bit (get_or other (n / 64) 0) k ≡ holds other (64 * (n / 64) + k) = sym (holds_word other (n / 64) k h) in
-      bit-bit_and c.apply.result c.word_below.result k ∙ ap₂ (λ x y. x && y) (c.apply.ensures.bits k h ∙ ap₂ (look t) mine theirs) (c.word_below.ensures k h)
+      bit-bit_and c.apply.result c.mask_at.result k ∙ ap₂ (λ x y. x && y) (c.apply.ensures.bits k h ∙ ap₂ (look t) mine theirs) (c.mask_at.ensures k h)
 
   last : Done (under f n) own (set cur (n / 64) new) (n / 64 + 1) (c.update_words-entered.result.0 + c.turned-came.result.0) (c.update_words-entered.result.1 + c.turned-came.result.1)
   last =
       done_more (under f n) own cur (n / 64) c.update_words-entered.result.0 c.update_words-entered.result.1 (get_or cur (n / 64) 0) new c.turned-came.result.0 c.turned-came.result.1
-      whole (omega (arith, whole.long, c.requires.enough)) (and_lt 64 c.apply.result c.word_below.result (omega arith) (omega arith)) old_is new_bit c.turned-came.ensures.came c.turned-came.ensures.went
+      whole (omega (arith, whole.long, c.requires.enough)) (and_lt 64 c.apply.result c.mask_at.result (omega arith) (omega arith)) old_is new_bit c.turned-came.ensures.came c.turned-came.ensures.went
 
   capped : (c.update_words-entered.result.0 + c.turned-came.result.0 ≤ n) × (c.update_words-entered.result.1 + c.turned-came.result.1 ≤ n)
   capped = done_cap (under f n) n own _ (n / 64 + 1) _ _ last c.requires.clean (under_past f n) (omega arith)

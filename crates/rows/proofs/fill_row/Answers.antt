@@ -10,7 +10,7 @@ loop-j-init c = done_none _ _
 
 new_bit : (c : goal.After-turned-c) (k : ℕ) → k < 64 → bit c.if-on.new k ≡ (c.args.on && ltb (64 * c.loop-j.j + k) c.args.domain)
 new_bit c k h = elim c.if-on.branch [
-  | then-on t ↦ ap (λ x. bit x k) t.new-is ∙ c.word_below-mask.ensures k h ∙ ap (λ b. b && ltb (64 * c.loop-j.j + k) c.args.domain) (sym t.if-on.true)
+  | then-on t ↦ ap (λ x. bit x k) t.new-is ∙ c.mask_at-mask.ensures k h ∙ ap (λ b. b && ltb (64 * c.loop-j.j + k) c.args.domain) (sym t.if-on.true)
   | else-on t ↦ ap (λ x. bit x k) t.new-is ∙ bit_none k ∙ ap (λ b. b && ltb (64 * c.loop-j.j + k) c.args.domain) (sym t.if-on.false)
 ]
 
