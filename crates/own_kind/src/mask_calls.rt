@@ -1,7 +1,7 @@
 // The kind as a mask.
 ghost use Rattle.own_kind.specs.Meaning.{domain_of, members_of, rule_of, picture_of, spare_of, enough, only_rule, nothing_past};
 ghost use Rattle.std.proofs.lemmas.List.{length-replicate};
-ghost use Rattle.own_kind.specs.Uniform;
+ghost use Rattle.own_kind.specs.Laws.{held, shown};
 ghost use Rattle.std.specs.Prelude.{refl};
 ghost use Rattle.std.proofs.Common.{rules};
 
@@ -31,15 +31,15 @@ impl Mask for AllOrNothing {
 
     ghost long = { λ s. length-replicate s.domain_size s.full };
 
-    ghost held = { λ s. Uniform.held s.domain_size s.full };
+    ghost held = { λ s. held s.domain_size s.full };
 
-    ghost empty = { λ s. Uniform.held s.domain_size _ };
+    ghost empty = { λ s. held s.domain_size _ };
 
-    ghost full = { λ s. Uniform.held s.domain_size _ };
+    ghost full = { λ s. held s.domain_size _ };
 
     ghost seen = { Prim.search rules };
 
-    ghost shown = { λ a b p e. Uniform.shown a.domain_size b.domain_size a.full b.full p e };
+    ghost shown = { λ a b p e. shown a.domain_size b.domain_size a.full b.full p e };
 
     ghost spans = { λ s b. (record { domain_size = s.domain_size; full = b }, refl, refl, refl) };
 

@@ -2,7 +2,7 @@
 use Rattle.std.proofs.Common.{◌≡◌, ℕ, Bool, true, false, cond, ◌⊎◌, replicate, sym, ap, ◌∙◌, ap₂, inl, inr}
 use Rattle.mask.specs.Machine.{gained}
 use Rattle.words.specs.Rows.{enters}
-use Rattle.own_kind.specs.Uniform.{gained_uniform}
+use Rattle.own_kind.proofs.Uniform.{gained_uniform}
 use Rattle.own_kind.proofs.flags.entering.Goals as goal
 
 pub returns-then-after : goal.returns-then-after

@@ -1,7 +1,7 @@
 -- Two sets of places that are all alike, put through a table, are such a set.
 use Rattle.std.proofs.Common.{[], refl}
 use Rattle.own_kind.specs.Meaning.{none_or_all}
-use Rattle.own_kind.specs.Uniform.{combine_in, combine_out}
+use Rattle.own_kind.proofs.Uniform.{combine_in, combine_out}
 use Rattle.own_kind.proofs.all_or_nothing.AllOrNothing.combine_with.Goals as goal
 
 pub returns-then-self-other : goal.returns-then-self-other

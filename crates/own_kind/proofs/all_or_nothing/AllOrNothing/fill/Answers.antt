@@ -1,6 +1,6 @@
 -- The set that is asked for is one that the mask can hold.
 use Rattle.std.proofs.Common.{refl}
-use Rattle.own_kind.specs.Uniform.{fill_in}
+use Rattle.own_kind.proofs.Uniform.{fill_in}
 use Rattle.own_kind.proofs.all_or_nothing.AllOrNothing.fill.Goals as goal
 
 pub returns : goal.returns

@@ -1,5 +1,5 @@
 -- In a full set each number below the domain is a member; in an empty one none is.
-use Rattle.own_kind.specs.Uniform.{next_here, next_past, next_never}
+use Rattle.own_kind.proofs.Uniform.{next_here, next_past, next_never}
 use Rattle.own_kind.proofs.all_or_nothing.AllOrNothing.seek.Goals as goal
 use Rattle.own_kind.proofs.all_or_nothing.AllOrNothing.seek.Goals.{else-self-via-then-self+else-from-self, else-self-via-else-self}
 

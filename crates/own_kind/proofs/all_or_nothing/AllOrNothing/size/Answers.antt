@@ -1,6 +1,6 @@
 -- The members are all of the indices, or none.
 use Rattle.std.proofs.Common.{cond, sym, ap, ◌∙◌}
-use Rattle.own_kind.specs.Uniform.{count_uniform}
+use Rattle.own_kind.specs.Laws.{count_uniform}
 use Rattle.own_kind.proofs.all_or_nothing.AllOrNothing.size.Goals as goal
 
 pub returns-then-self : goal.returns-then-self

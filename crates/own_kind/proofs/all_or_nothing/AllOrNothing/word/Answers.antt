@@ -1,7 +1,7 @@
 -- In a full set the members are the numbers below the domain; in an empty one there is none.
 use Rattle.std.proofs.Common.{◌+◌, ◌*◌, ◌&&◌, ltb, sym, ap, ◌∙◌}
 use Rattle.words.proofs.Bitwise.{bit_none}
-use Rattle.own_kind.specs.Uniform.{place_uniform}
+use Rattle.own_kind.specs.Laws.{place_uniform}
 use Rattle.own_kind.proofs.all_or_nothing.AllOrNothing.word.Goals as goal
 
 pub returns-then-self : goal.returns-then-self

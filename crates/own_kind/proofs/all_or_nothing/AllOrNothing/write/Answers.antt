@@ -1,6 +1,6 @@
 -- One index can be written where that changes nothing, or where it is the only one.
 use Rattle.std.proofs.Common.{refl, arith}
-use Rattle.own_kind.specs.Uniform.{put_out, put_same, put_split, put_only}
+use Rattle.own_kind.proofs.Uniform.{put_out, put_same, put_split, put_only}
 use Rattle.own_kind.proofs.all_or_nothing.AllOrNothing.write.Goals as goal
 
 pub returns-then-index-self : goal.returns-then-index-self

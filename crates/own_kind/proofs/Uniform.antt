@@ -1,18 +1,18 @@
 -- Sets whose places are all alike.
-use Rattle.std.specs.Prelude.{◌≡◌, ℕ, zero, suc, ◌+◌, ◌<◌, ◌≤◌, Bool, true, false, cond, ◌&&◌, List, [], ◌∷◌, length, get_or, replicate, Some, None, Ok, Err, ◌==◌, ◌≢◌, nat_lt, slice_index_or, slice_set}
+use Rattle.std.specs.Prelude.{◌≡◌, ℕ, zero, suc, ◌+◌, ◌<◌, ◌≤◌, Bool, true, false, cond, List, ◌∷◌, length, replicate, Some, None, Ok, Err, ◌≢◌, nat_lt, slice_set}
 use Rattle.std.specs.Bool.{beq}
-use Rattle.std.proofs.Common.{inl, inr, sym, ap₂, ◌∙◌, zero-add, arith}
+use Rattle.std.proofs.Common.{sym, ap₂, ◌∙◌, zero-add, arith}
 use Rattle.std.proofs.Math.Path.{refl, ap, subst}
-use Rattle.std.proofs.lemmas.List.{length-replicate, length-set, get_or-replicate, get_or_past}
-use Rattle.std.proofs.lemmas.Bool.{true≢false, false≢true, lt-ltb, le-ltb, eq-eqb, ne_eqb, or_left, or_right, or_from, and_left, and_right, and_from, cases_lt}
+use Rattle.std.proofs.lemmas.List.{length-replicate, length-set}
+use Rattle.std.proofs.lemmas.Bool.{true≢false, false≢true, lt-ltb, le-ltb, eq-eqb, ne_eqb, or_from, and_left, and_right, and_from}
 use Rattle.index.specs.declared.refusal.Refusal.TheVariants.{Index, Domains, Holding}
-use Rattle.words.specs.Bits.{one}
 use Rattle.words.specs.Rows.{enters}
 use Rattle.words.specs.Tables.{look}
 use Rattle.words.specs.declared.table.Table.{Table}
 use Rattle.mask.specs.Machine.{Report, count, gained, through, settle, step, next_member, insert, remove, clear, insert_all, combine}
 use Rattle.mask.proofs.Nexts.{next_none, next_some}
 use Rattle.own_kind.specs.Meaning.{none_or_all}
+use Rattle.own_kind.specs.Laws.{count_uniform, held, place_uniform}
 
 pub gained_uniform : (n : ℕ) (a b : Bool) → gained (replicate n a) (replicate n b) ≡ cond (enters a b) n 0
 unfolding gained
@@ -23,23 +23,12 @@ gained_uniform (suc n) true b = rw zero-add (gained_uniform n true b)
 gained_uniform (suc n) false true = omega (arith, gained_uniform n false true)
 gained_uniform (suc n) false false = rw zero-add (gained_uniform n false false)
 
-pub count_uniform : (n : ℕ) (b : Bool) → count (replicate n b) ≡ cond b n 0
-unfolding count
-count_uniform zero true = refl
-count_uniform zero false = refl
-count_uniform (suc n) true = omega (arith, count_uniform n true)
-count_uniform (suc n) false = rw zero-add (count_uniform n false)
-
 through_uniform : (t : Table) (n : ℕ) (a b : Bool) → through t (replicate n a) (replicate n b) ≡ replicate n (look t a b)
 unfolding through
 through_uniform t zero a b = refl
 through_uniform t (suc n) a b = ap (λ x. look t a b ∷ x) (through_uniform t n a b)
 
--- ---- what the rule lets in, and what it keeps out
-
-pub held : (n : ℕ) (b : Bool) → none_or_all (replicate n b) ≡ true
-held n true = or_right (count (replicate n true) == 0) _ (eq-eqb _ _ (count_uniform n true ∙ sym (length-replicate n true)))
-held n false = or_left _ (count (replicate n false) == length (replicate n false)) (eq-eqb _ _ (count_uniform n false))
+-- ---- what the rule keeps out
 
 -- one place set where the others are clear, and one cleared where the others are set
 count_one : (n i : ℕ) → i < n → count (slice_set (replicate n false) i true) ≡ 1
@@ -146,18 +135,6 @@ module _ (n : ℕ) (was on : Bool) (new : List Bool) (r : ℕ × ℕ) (becomes :
       let P : ℕ → Type 0 = λ k. ◌≡◌ {A = Report × List Bool} (Ok r, new) (step n none_or_all (replicate n was) (combine t k (replicate k operand))) in
       subst P same (turned (through t (replicate n was) (replicate n operand)) (through_uniform t n was operand ∙ ap (replicate n) (sym e)) ∙ rw (eq-eqb n n refl))
 
--- ---- one place
-
-both_true : (x y : Bool) → y ≡ true → x ≡ (x && y)
-both_true true y e = sym e
-both_true false y e = refl
-
-pub place_uniform : (n i : ℕ) (b : Bool) → slice_index_or (replicate n b) i false ≡ (b && nat_lt i n)
-place_uniform n i b = elim (cases_lt i n) [
-  | inl l ↦ get_or-replicate n i b false l ∙ both_true b (nat_lt i n) (lt-ltb i n l)
-  | inr l ↦ get_or_past (replicate n b) i false (omega (arith, length-replicate n b)) ∙ sym (and_right b (nat_lt i n) (le-ltb i n l))
-]
-
 -- ---- the lowest member at or after a number
 
 module _ (n from : ℕ) (b : Bool) where
@@ -170,9 +147,3 @@ module _ (n from : ℕ) (b : Bool) where
 
   pub next_never : b ≡ false → None ≡ next_member (replicate n b) from
   next_never e = sym (next_none (replicate n b) from (λ i l. place_uniform n i b ∙ and_left b (nat_lt i n) e))
-
--- ---- pictures
-
--- the flag as it is shown is the first place of the members
-pub shown : (n m : ℕ) (a b : Bool) → n ≡ m → replicate n a ≡ replicate m b → ◌≡◌ {A = List ℕ} (n ∷ one (a && nat_lt 0 n) ∷ []) (m ∷ one (b && nat_lt 0 m) ∷ [])
-shown n m a b p e = ap₂ (λ x y. x ∷ one y ∷ []) p (sym (place_uniform n 0 a) ∙ ap (λ bs. get_or bs 0 false) e ∙ place_uniform m 0 b)
