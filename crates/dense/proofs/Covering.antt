@@ -23,7 +23,7 @@ or_only true y e h = refl
 or_only false true e h = sym e
 or_only false false e h = h
 
-module _ (n : ℕ) (us vs : List ℕ) (own : words_for n ≤ length us) (other : words_for n ≤ length vs) (clean : Clean n us) (clean-too : Clean n vs) where
+module _ (n : ℕ) (us vs : List ℕ) (own : words_for n ≤ length us) (other : words_for n ≤ length vs) (clean : Clean n us) (clean_too : Clean n vs) where
   abbrev w : ℕ
   w = words_for n
 
@@ -37,7 +37,7 @@ module _ (n : ℕ) (us vs : List ℕ) (own : words_for n ≤ length us) (other :
   over_rows true e = λ over. absurd (true≢false (e ∙ alike_unchanged or_table (take w us) (take w vs) (λ i a h.
       elim (cases_lt i n) [
         | inl l ↦ or_same (holds (take w us) i) (holds (take w vs) i) (λ y. sym (member us i l) ∙ over i (member vs i l ∙ y))
-        | inr l ↦ or_same (holds (take w us) i) (holds (take w vs) i) (λ y. absurd (true≢false (sym y ∙ holds-take w i vs (omega (arith, long us own, long vs other)) ∙ clean-too i l (omega (arith, long us own, long vs other)))))
+        | inr l ↦ or_same (holds (take w us) i) (holds (take w vs) i) (λ y. absurd (true≢false (sym y ∙ holds-take w i vs (omega (arith, long us own, long vs other)) ∙ clean_too i l (omega (arith, long us own, long vs other)))))
       ])))
   over_rows false e = λ i y. elim (cases_lt i n) [
     | inl l ↦ (let al = unchanged_alike or_table (take w us) (take w vs) (sym e) in

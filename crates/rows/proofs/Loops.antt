@@ -131,6 +131,6 @@ module _ (f : ℕ → Bool) (n : ℕ) (own cur : List ℕ) (r : ℕ × ℕ) (b :
 pub becomes_moved : (f h : ℕ → Bool) (n : ℕ) (own own' cur cur' : List ℕ) (r : ℕ × ℕ) → own ≡ own' → cur' ≡ cur → ((i : ℕ) → i < n → f i ≡ h i)
     → Becomes f n own cur r → Becomes h n own' cur' r
 becomes_moved f h n own own' cur cur' r p q same b =
-    let at-cur : Becomes h n own cur r = record { long = b.long; bits = λ i l. b.bits i l ∙ same i l; clean = b.clean; fit = b.fit; spare = b.spare; came = b.came; went = b.went } in
-    let at_own : Becomes h n own' cur r = subst (λ u. Becomes h n u cur r) p at-cur in
+    let at_cur : Becomes h n own cur r = record { long = b.long; bits = λ i l. b.bits i l ∙ same i l; clean = b.clean; fit = b.fit; spare = b.spare; came = b.came; went = b.went } in
+    let at_own : Becomes h n own' cur r = subst (λ u. Becomes h n u cur r) p at_cur in
     subst (λ v. Becomes h n own' v r) (sym q) at_own

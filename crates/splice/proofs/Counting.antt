@@ -51,10 +51,10 @@ module _ (ws : List ℕ) (s e w before : ℕ) (order : s ≤ e) (within : e ≤ 
       let a : ℕ = s / 64 in
       let m : ℕ = e / 64 - s / 64 in
       let same : 64 * m + e % 64 ≡ s % 64 + (e - s) = omega arith in
-      let at-end : 64 * a + 64 * m ≡ 64 * (e / 64) = omega arith in
-      let at-start : 64 * a + s % 64 ≡ s = omega arith in
-      ap₂ (λ x y. x + y) whole_is (low ∙ ap (λ x. tally p x (e % 64)) (sym at-end))
+      let at_end : 64 * a + 64 * m ≡ 64 * (e / 64) = omega arith in
+      let at_start : 64 * a + s % 64 ≡ s = omega arith in
+      ap₂ (λ x y. x + y) whole_is (low ∙ ap (λ x. tally p x (e % 64)) (sym at_end))
       ∙ sym (tally_add p (64 * a) (64 * m) (e % 64))
       ∙ ap (tally p (64 * a)) same
       ∙ tally_add p (64 * a) (s % 64) (e - s)
-      ∙ ap (λ x. tally p (64 * a) (s % 64) + tally p x (e - s)) at-start
+      ∙ ap (λ x. tally p (64 * a) (s % 64) + tally p x (e - s)) at_start

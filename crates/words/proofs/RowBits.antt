@@ -22,8 +22,8 @@ unfolding holds
 holds_past ws i h = ap (λ w. bit w (i % 64)) (get_or_past ws (i / 64) 0 (omega arith)) ∙ bit_none (i % 64)
 
 -- a part of a row, m words from word a on
-pub get_d_part : (ws : List ℕ) (a m k : ℕ) → k < m → get_or (take m (drop a ws)) k 0 ≡ get_or ws (a + k) 0
-get_d_part ws a m k h = get_or-take m (drop a ws) k 0 h ∙ get_or-drop a ws k 0
+pub get_or-part : (ws : List ℕ) (a m k : ℕ) → k < m → get_or (take m (drop a ws)) k 0 ≡ get_or ws (a + k) 0
+get_or-part ws a m k h = get_or-take m (drop a ws) k 0 h ∙ get_or-drop a ws k 0
 
 pub length_part : (ws : List ℕ) (a m : ℕ) → a + m ≤ length ws → length (take m (drop a ws)) ≡ m
 length_part ws a m h = omega (arith, length-take m (drop a ws), length-drop a ws)
@@ -33,7 +33,7 @@ unfolding holds
 holds_part ws a m i h =
     let e : (64 * a + i) / 64 ≡ a + i / 64 = omega arith in
     let f : (64 * a + i) % 64 ≡ i % 64 = omega arith in
-    rw (e, f) (ap (λ w. bit w (i % 64)) (get_d_part ws a m (i / 64) (omega arith)))
+    rw (e, f) (ap (λ w. bit w (i % 64)) (get_or-part ws a m (i / 64) (omega arith)))
 
 -- a row with one word written anew
 pub holds-set_other : (ws : List ℕ) (j w i : ℕ) → (i / 64 ≡ j → ⊥) → holds (set ws j w) i ≡ holds ws i
@@ -54,9 +54,9 @@ set_fit ws j w within small k h = elim (cases_eq k j) [
 pub set_rest : (f : ℕ → Bool) (ws : List ℕ) (j w : ℕ) → j < length ws → w < 2 ^ 64 → get_or ws j 0 < 2 ^ 64 → ((i : ℕ) → holds (set ws j w) i ≡ f i)
     → (k : ℕ) → ((b : ℕ) → b < 64 → f (64 * k + b) ≡ holds ws (64 * k + b)) → get_or (set ws j w) k 0 ≡ get_or ws k 0
 set_rest f ws j w within small read bits k stays = elim (cases_eq k j) [
-  | inl e ↦ (let Stays-here : (b : ℕ) → b < 64 → f (64 * j + b) ≡ holds ws (64 * j + b) = subst (λ x. (b : ℕ) → b < 64 → f (64 * x + b) ≡ holds ws (64 * x + b)) e stays in
+  | inl e ↦ (let StaysHere : (b : ℕ) → b < 64 → f (64 * j + b) ≡ holds ws (64 * j + b) = subst (λ x. (b : ℕ) → b < 64 → f (64 * x + b) ≡ holds ws (64 * x + b)) e stays in
       let same : w ≡ get_or ws j 0 = same_bits 64 w (get_or ws j 0) small read (λ b l.
-      sym (holds_word (set ws j w) j b l ∙ ap (λ x. bit x b) (get_or-set_same ws j w 0 within)) ∙ bits (64 * j + b) ∙ Stays-here b l ∙ holds_word ws j b l) in
+      sym (holds_word (set ws j w) j b l ∙ ap (λ x. bit x b) (get_or-set_same ws j w 0 within)) ∙ bits (64 * j + b) ∙ StaysHere b l ∙ holds_word ws j b l) in
       ap (λ x. get_or (set ws j w) x 0) e ∙ get_or-set_same ws j w 0 within ∙ same ∙ ap (λ x. get_or ws x 0) (sym e))
   | inr ne ↦ get_or-set_other ws j k w 0 ne
 ]

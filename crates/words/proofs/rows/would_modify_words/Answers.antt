@@ -3,7 +3,7 @@ use Rattle.std.proofs.Common.{◌+◌, ◌-◌, ◌<◌, ltb, get_or, take, drop
 use Rattle.std.proofs.lemmas.List.{length-take}
 use Rattle.std.proofs.lemmas.Bool.{cases_Bool, or_parts, ltb-false}
 use Rattle.words.specs.Rows.{changed, entered, left}
-use Rattle.words.proofs.RowBits.{get_d_part}
+use Rattle.words.proofs.RowBits.{get_or-part}
 use Rattle.words.proofs.Updating.{alike_more, alike_less, alike_none, none_alike}
 use Rattle.words.proofs.rows.would_modify_words.Goals as goal
 
@@ -18,8 +18,8 @@ loop-k-preserved g c =
     let within : k < m = omega (arith, length-take m (drop a us)) in
     let old = get_or (take m (drop a us)) k 0 in
     let operand = get_or (take m (drop a vs)) k 0 in
-    let own = get_d_part us a m k within in
-    let other = get_d_part vs a m k within in (
+    let own = get_or-part us a m k within in
+    let other = get_or-part vs a m k within in (
       (λ e i l h. alike_more t us vs a (a + k) c.loop-k.changed old operand c.apply.result own other (omega arith) (omega arith) c.apply.ensures.bits (omega arith) c.loop-k.invariant.0 e i l (omega arith)),
       (λ al. alike_less t us vs a (a + k) c.loop-k.changed old operand c.apply.result own other (omega arith) (omega arith) c.apply.ensures.bits (omega arith) c.loop-k.invariant.1 (λ i l h. al i l (omega arith))),
     )

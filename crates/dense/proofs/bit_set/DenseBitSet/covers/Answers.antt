@@ -20,6 +20,6 @@ returns c =
     let us = ap₂ (λ x ws. take x ws) w c.deref.ensures.value in
     let vs = ap₂ (λ x ws. take x ws) w c.deref-2.ensures.value in
     let flag = c.would_modify_words.ensures ∙ ap₂ (λ xs ys. changed (entered or_table xs ys) (left or_table xs ys)) us vs in
-    let clean-too : Clean n (vec_items o.words) = λ i a b. o.clean i (omega (arith, c.requires)) (omega (arith, ap words_for c.requires)) in
+    let clean_too : Clean n (vec_items o.words) = λ i a b. o.clean i (omega (arith, c.requires)) (omega (arith, ap words_for c.requires)) in
     subst (λ (m : ℕ). Tells (not c.would_modify_words.result) (Superset (tab (holds (vec_items s.words)) n) (tab (holds (vec_items o.words)) m))) c.requires
-    (over_rows n (vec_items s.words) (vec_items o.words) own other s.clean clean-too c.would_modify_words.result flag)
+    (over_rows n (vec_items s.words) (vec_items o.words) own other s.clean clean_too c.would_modify_words.result flag)
