@@ -20,7 +20,7 @@ fn run_calls<M: Mask, T: Idx, O: Operator>(
     calls: &[Call<T, O>],
     reports: &mut Collector<'_, Result<(usize, usize), Refusal>>,
 )
-    requires { (((k : ℕ) (c : Called T O) → k < length calls.now → Named (length row.now) (slice_index_or calls.now k c))) × (reports.old.filled + length calls.now ≤ length reports.old.places.now) }
+    requires { ((k : ℕ) (c : Called T O) → k < length calls.now → Named (length row.now) (slice_index_or calls.now k c)) × (reports.old.filled + length calls.now ≤ length reports.old.places.now) }
     ensures machine { (d : M) → Ran (run (M.domain mask.old) (M.rule mask.old) (M.members mask.old) (map (move T.place O.table M.domain M.members M.rule (λ j. slice_index_or row.now j d)) calls.now)) (M.members mask.new) reports.old.filled reports.old.places.now reports.new.filled reports.new.places.now }
     ensures kept { Kept M.domain M.rule M.spare mask.old mask.new }
 {
