@@ -2,6 +2,7 @@
 ghost use Rattle.std.specs.Prelude.{◌≡◌, List, ◌∷◌};
 ghost use Rattle.index.specs.Refusals.{returned, listed};
 
+use std::error::Error;
 use std::fmt;
 
 // A refused call changes no mask, no memory and no collector.
@@ -26,7 +27,7 @@ pub enum Refusal {
     Places,
 }
 
-// The values that a refusal returns beside its number.
+// The values that a refusal returns beside its number: up to two, so an Option would not hold them.
 #[derive(Clone, Copy, PartialEq, Eq, Debug)]
 pub enum Values {
     Nothing,
@@ -35,7 +36,8 @@ pub enum Values {
 }
 
 impl Refusal {
-    // The number and the values that this refusal returns.
+    // The number and the values that this refusal returns. A rule of the project: programs print a refusal
+    // by its number, and an enum with values has no number of its own for each variant.
     pub fn returned(self) -> (u8, Values)
         ensures value { result.0 ∷ listed result.1 ≡ returned self }
         ensures apart { (other : Refusal) → returned other ≡ returned self → other ≡ self }
@@ -70,3 +72,5 @@ impl fmt::Display for Refusal {
         }
     }
 }
+
+impl Error for Refusal {}

@@ -10,30 +10,22 @@ pub struct Sample {
 }
 
 impl Idx for Sample {
-    ghost limit = { 4294967296 };
+    const LIMIT: usize = 4_294_967_296;
+
+    ghost LIMIT = { 4294967296 };
 
     ghost place = { λ s. s.number };
-
-    const LIMIT: usize = 4_294_967_296;
 
     ghost small = { Prim.search rules };
 
     ghost apart = { Prim.search rules };
 
-    fn covers(domain: usize) -> bool {
-        domain <= Self::LIMIT
-    }
-
     fn new(index: usize) -> Option<Sample> {
-        if index < Self::LIMIT {
-            Some(Sample {
-                number: index as u32,
-            })
-        } else {
-            None
-        }
+        let number = u32::try_from(index).ok()?;
+        Some(Sample { number })
     }
 
+    // A cast, since a `usize` has no `From<u32>`.
     fn index(self) -> usize {
         self.number as usize
     }

@@ -1,9 +1,11 @@
 // A slot that can be sold: a place in a break.
 ghost use Rattle.std.specs.Prelude.{◌≡◌, ◌+◌, ◌*◌, ◌<◌};
-ghost use Rattle.index.specs.Slots.{number, slot_index};
+ghost use Rattle.index.specs.Slots.{number, slot_index, Numbered};
 ghost use Rattle.std.proofs.Common.{rules};
 
 use crate::idx::Idx;
+use std::error::Error;
+use std::fmt;
 
 // The eight places of a break, in the order in which they are heard.
 #[derive(Clone, Copy, PartialEq, Eq, Debug)]
@@ -19,6 +21,10 @@ pub enum Place {
 }
 
 const PLACES: usize = 8;
+
+// A number that no place of a break has.
+#[derive(Clone, Copy, PartialEq, Eq, Debug)]
+pub struct NoPlace(pub usize);
 
 // An enum of places keeps every slot in range without an invariant, so slots can lie in any slice.
 #[derive(Clone, Copy, PartialEq, Eq, Debug)]
@@ -36,51 +42,55 @@ impl Place {
     }
 }
 
-// The place of the number `rest`.
-fn place_at(rest: usize) -> Place
-    requires { rest < 8 }
-    ensures { number result ≡ rest }
-{
-    match rest {
-        0 => Place::First,
-        1 => Place::Second,
-        2 => Place::Third,
-        3 => Place::Fourth,
-        4 => Place::Fifth,
-        5 => Place::Sixth,
-        6 => Place::Seventh,
-        _ => Place::Eighth,
+impl TryFrom<usize> for Place {
+    type Error = NoPlace;
+
+    ghost try_from_gives = { Numbered };
+
+    fn try_from(number: usize) -> Result<Place, NoPlace> {
+        match number {
+            0 => Ok(Place::First),
+            1 => Ok(Place::Second),
+            2 => Ok(Place::Third),
+            3 => Ok(Place::Fourth),
+            4 => Ok(Place::Fifth),
+            5 => Ok(Place::Sixth),
+            6 => Ok(Place::Seventh),
+            7 => Ok(Place::Eighth),
+            _ => Err(NoPlace(number)),
+        }
     }
 }
 
+impl fmt::Display for NoPlace {
+    fn fmt<W: fmt::Write>(&self, f: &mut fmt::Formatter<W>) -> fmt::Result {
+        write!(f, "no place of a break has the number {}", self.0)
+    }
+}
+
+impl Error for NoPlace {}
+
 impl Idx for Slot {
-    ghost limit = { 524288 };
+    const LIMIT: usize = 524_288;
+
+    ghost LIMIT = { 524288 };
 
     ghost place = { slot_index };
-
-    const LIMIT: usize = 524_288;
 
     ghost small = { Prim.search rules };
 
     ghost apart = { Prim.search rules };
 
-    fn covers(domain: usize) -> bool {
-        domain <= Self::LIMIT
-    }
-
     fn new(index: usize) -> Option<Slot> {
-        if index < Self::LIMIT {
-            let break_number = (index / PLACES) as u16;
-            Some(Slot {
-                break_number,
-                place: place_at(index % PLACES),
-            })
-        } else {
-            None
-        }
+        let break_number = u16::try_from(index / PLACES).ok()?;
+        let place = Place::try_from(index % PLACES).ok()?;
+        Some(Slot {
+            break_number,
+            place,
+        })
     }
 
     fn index(self) -> usize {
-        PLACES * self.break_number as usize + self.place.number()
+        PLACES * usize::from(self.break_number) + self.place.number()
     }
 }

@@ -1,6 +1,6 @@
 -- The whole words of a row, combined at once.
-use Rattle.std.proofs.Common.{◌≡◌, ℕ, ◌+◌, ◌-◌, ◌*◌, ◌/◌, ◌%◌, ◌^◌, ◌<◌, ◌≤◌, Bool, cond, List, ◌++◌, length, get_or, take, drop, sym, ap, ◌∙◌, subst, ap₂, arith, rules}
-use Rattle.std.proofs.lemmas.List.{places, length-take-le, get_or_append_left, get_or-take}
+use Rattle.std.proofs.Common.{◌≡◌, ℕ, ◌+◌, ◌-◌, ◌*◌, ◌/◌, ◌%◌, ◌^◌, ◌<◌, ◌≤◌, Bool, cond, List, ◌++◌, length, get_or, take, drop, sym, ap, ◌∙◌, subst, ap₂, arith}
+use Rattle.std.proofs.lemmas.List.{length-take-le, get_or-take}
 use Rattle.std.proofs.lemmas.Bool.{lt-ltb}
 use Rattle.words.specs.declared.table.Table.{Table}
 use Rattle.words.specs.Bits.{bit, holds, tally, words_for}
@@ -9,18 +9,7 @@ use Rattle.words.specs.Tables.{look}
 use Rattle.words.proofs.Tallies.{tally_same, tally_le}
 use Rattle.rows.specs.Members.{Fit, gain}
 use Rattle.rows.proofs.Loops.{Done, under, under_below}
-use Rattle.rows.proofs.RowWords.{holds-take}
-
--- a row whose first words are written anew
-module _ (own ps : List ℕ) (w : ℕ) (fits : w ≤ length own) (long : length ps ≡ w) where
-  front_long : length (ps ++ drop w own) ≡ length own
-  front_long = search (rules, places)
-
-  front_in : (k : ℕ) → k < w → get_or (ps ++ drop w own) k 0 ≡ get_or ps k 0
-  front_in k h = get_or_append_left ps (drop w own) 0 k (omega arith)
-
-  front_out : (k : ℕ) → w ≤ k → get_or (ps ++ drop w own) k 0 ≡ get_or own k 0
-  front_out k h = grind (arith, places)
+use Rattle.rows.proofs.RowWords.{holds-take, front_long, front_in, front_out}
 
 module _ (t : Table) (own other ps : List ℕ) (w n e l : ℕ) (fits : w ≤ length own) (fits-too : w ≤ length other) (below : 64 * w ≤ n) (small : n < 2 ^ 64)
     (fit : (k : ℕ) → k < w → get_or own k 0 < 2 ^ 64) (row : Rewritten (combined t (take w own) (take w other)) (take w own) ps)

@@ -3,5 +3,5 @@ pub mod RowWords
 pub mod Loops
 pub mod Lent
 pub mod Seeking
-pub mod Alike
 pub mod Combining
+pub mod Filling

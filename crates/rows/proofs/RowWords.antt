@@ -1,15 +1,22 @@
 -- Laws of a row of words.
-use Rattle.std.proofs.Common.{◌≡◌, ℕ, ◌+◌, ◌-◌, ◌*◌, ◌/◌, ◌%◌, ◌^◌, ◌<◌, ◌≤◌, min, Bool, false, cond, eqb, ltb, List, ◌∷◌, ◌++◌, map, length, get_or, take, drop, set, replicate, sym, ap, ◌∙◌, ap₂, inl, inr, arith, lit<, pow_pos, pow_mono}
+use Rattle.std.proofs.Common.{◌≡◌, ℕ, ◌+◌, ◌-◌, ◌*◌, ◌/◌, ◌%◌, ◌^◌, ◌<◌, ◌≤◌, min, Bool, false, cond, not, eqb, ltb, List, ◌∷◌, ◌++◌, map, length, get_or, take, drop, set, replicate, sym, ap, ◌∙◌, ap₂, inl, inr, arith, rules, lit<, pow_pos, pow_mono}
+use lib.Bits.{bit_and}
 use Rattle.std.specs.List.{range_with_len}
 use Rattle.std.proofs.lemmas.List.FromFn.{length-map-range_with_len, get_or-map-range_with_len}
-use Rattle.std.proofs.lemmas.List.{get_or_append_left, length-replicate, get_or-replicate, get_or-take, length-take-le, ext_get_or, get_or-set_same, get_or-set_other, length-set}
+use Rattle.std.proofs.lemmas.List.{places, get_or_append_left, length-replicate, get_or-replicate, get_or-take, length-take-le, ext_get_or, get_or-set_same, get_or-set_other, length-set}
 use Rattle.std.proofs.lemmas.Bool.{cases_eq, cases_lt, eq-eqb, ne_eqb}
 use Rattle.std.proofs.lemmas.Bool.Decides.{nat_tests}
 use Rattle.words.specs.Bits.{bit, holds, words_for}
 use Rattle.rows.specs.Members.{tab, Fit, Clean}
 use Rattle.words.proofs.RowBits.{holds_word}
-use Rattle.words.proofs.Bitwise.{bit_none, bit_ones, same_bits}
+use Rattle.words.proofs.Bitwise.{bit_none, bit_ones, same_bits, and_pow}
 use Rattle.rows.proofs.Tabs.{tab_is, tab_same, length-tab, get_or-tab}
+
+-- ---- a word's test against an index's mask
+
+pub bit_tested : (ws : List ℕ) (i j m : ℕ) → j ≡ i / 64 → m ≡ 2 ^ (i % 64) → not (eqb (bit_and (get_or ws j 0) m) 0) ≡ holds ws i
+unfolding holds
+bit_tested ws i j m e f = ap₂ (λ x y. not (eqb (bit_and (get_or ws x 0) y) 0)) e f ∙ and_pow (get_or ws (i / 64) 0) (i % 64)
 
 -- ---- a row that begins with zeros
 
@@ -64,6 +71,17 @@ module _ (n len m : ℕ) (xs : List ℕ) (enough : words_for n ≤ len) where
       let k : i % 64 < 64 = omega arith in
       let e : 64 * (i / 64) + i % 64 ≡ i = omega arith in
       ap (λ w. bit w (i % 64)) (get_or-refill len (words_for n) m (i / 64) xs l enough) ∙ bit_run m (i / 64) (i % 64) k ∙ ap (λ x. ltb x m) e
+
+-- ---- a row whose first words are written anew
+module _ (own ps : List ℕ) (w : ℕ) (fits : w ≤ length own) (long : length ps ≡ w) where
+  pub front_long : length (ps ++ drop w own) ≡ length own
+  front_long = search (rules, places)
+
+  pub front_in : (k : ℕ) → k < w → get_or (ps ++ drop w own) k 0 ≡ get_or ps k 0
+  front_in k h = get_or_append_left ps (drop w own) 0 k (omega arith)
+
+  pub front_out : (k : ℕ) → w ≤ k → get_or (ps ++ drop w own) k 0 ≡ get_or own k 0
+  front_out k h = grind (arith, places)
 
 -- ---- the words of a row from its bits, and the other way
 

@@ -1,5 +1,5 @@
 -- The lowest set bit of a row at or after an index.
-use Rattle.std.proofs.Common.{◌≡◌, ℕ, ◌+◌, ◌-◌, ◌*◌, ◌^◌, ◌<◌, ◌≤◌, Bool, true, false, not, ◌&&◌, ltb, List, length, get_or, sym, refl, ap, ◌∙◌, inl, inr, arith}
+use Rattle.std.proofs.Common.{◌≡◌, ℕ, ◌+◌, ◌-◌, ◌*◌, ◌/◌, ◌^◌, ◌<◌, ◌≤◌, Bool, true, false, not, ◌&&◌, ltb, List, length, get_or, sym, refl, ap, ◌∙◌, inl, inr, arith}
 use lib.Bits.{bit_and}
 use lib.Pow.{pow-lt}
 use Rattle.std.proofs.lemmas.Bool.{cases_lt, and_parts, not-true, ltb-false, le-ltb}
@@ -12,7 +12,7 @@ pub bit_from : (w m k : ℕ) → m < 64 → k < 64 → bit (bit_and w (2 ^ 64 - 
 bit_from w m k hm hk =
     let top : 2 ^ m < 2 ^ 64 = pow-lt hm in
     let small : 2 ^ m - 1 < 2 ^ 64 = omega arith in
-    bit-bit_and w (2 ^ 64 - 1 - (2 ^ m - 1)) k ∙ ap (λ x. bit w k && x) (bit_not 64 (2 ^ m - 1) k small hk ∙ ap not (bit_ones m k))
+    bit-bit_and w (2 ^ 64 - 1 - (2 ^ m - 1)) k ∙ ap (λ x. bit w k && x) (bit_not (2 ^ m - 1) k small hk ∙ ap not (bit_ones m k))
 
 both_true : (x : Bool) → (x && true) ≡ x
 both_true true = refl
@@ -38,21 +38,25 @@ module _ (ws : List ℕ) (from j m v : ℕ) (at : from ≡ 64 * j + m) (few : m 
       let past : m ≤ t = ltb-false t m (not-true (ltb t m) parts.1) in
       (omega arith, omega arith, holds_word ws j t h ∙ parts.0, λ i a b. clear_at i a (omega arith) (low.below (i - 64 * j) (omega arith)))
 
--- a later word
-module _ (ws : List ℕ) (from k : ℕ) (below : (i : ℕ) → from ≤ i → i < 64 * k → holds ws i ≡ false) where
-  pub word_none : get_or ws k 0 ≡ 0 → (i : ℕ) → from ≤ i → i < 64 * (k + 1) → holds ws i ≡ false
-  word_none e i a b = elim (cases_lt i (64 * k)) [
-    | inl l ↦ below i a l
-    | inr l ↦ at_word ws k i l (omega arith) ∙ ap (λ x. bit x (i - 64 * k)) e ∙ bit_none (i - 64 * k)
-  ]
+-- words that are 0 have no bit set, from word a on
+pub zeros : (ws : List ℕ) (from a k : ℕ) → ((i : ℕ) → from ≤ i → i < 64 * a → holds ws i ≡ false) → ((j : ℕ) → j < k → get_or ws (a + j) 0 ≡ 0)
+    → (i : ℕ) → from ≤ i → i < 64 * (a + k) → holds ws i ≡ false
+zeros ws from a k below none i l h = elim (cases_lt i (64 * a)) [
+  | inl s ↦ below i l s
+  | inr s ↦ (let e : a + (i / 64 - a) ≡ i / 64 = omega arith in
+      let z = ap (λ x. get_or ws x 0) (sym e) ∙ none (i / 64 - a) (omega arith) in
+      at_word ws (i / 64) i (omega arith) (omega arith) ∙ ap (λ x. bit x (i - 64 * (i / 64))) z ∙ bit_none (i - 64 * (i / 64)))
+]
 
-  pub word_some : (t : ℕ) → t < 64 → Low (get_or ws k 0) t → k < length ws → from ≤ 64 * k → (from ≤ 64 * k + t) × (64 * k + t < 64 * length ws) × (holds ws (64 * k + t) ≡ true) × ((i : ℕ) → from ≤ i → i < 64 * k + t → holds ws i ≡ false)
-  word_some t h low within past = (
-    omega arith,
-    omega arith,
-    holds_word ws k t h ∙ low.set,
-    λ i a b. elim (cases_lt i (64 * k)) [
-      | inl l ↦ below i a l
-      | inr l ↦ at_word ws k i l (omega arith) ∙ low.below (i - 64 * k) (omega arith)
-    ],
-  )
+-- a later word
+pub word_some : (ws : List ℕ) (from k t : ℕ) → ((i : ℕ) → from ≤ i → i < 64 * k → holds ws i ≡ false) → t < 64 → Low (get_or ws k 0) t → k < length ws → from ≤ 64 * k
+    → (from ≤ 64 * k + t) × (64 * k + t < 64 * length ws) × (holds ws (64 * k + t) ≡ true) × ((i : ℕ) → from ≤ i → i < 64 * k + t → holds ws i ≡ false)
+word_some ws from k t below h low within past = (
+  omega arith,
+  omega arith,
+  holds_word ws k t h ∙ low.set,
+  λ i a b. elim (cases_lt i (64 * k)) [
+    | inl l ↦ below i a l
+    | inr l ↦ at_word ws k i l (omega arith) ∙ low.below (i - 64 * k) (omega arith)
+  ],
+)

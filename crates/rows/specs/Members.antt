@@ -2,6 +2,7 @@
 --   tab        a test's answers at the indices below n
 --   Fit        each word that n bits take fits 64 bits
 --   Clean      the bits of those words at or past n are 0
+--   IsRow      a row has the words that n bits take, and is clean
 --   Becomes    over n bits a row became another whose bit i is f i, clean and fit, and what lies past is as it was;
 --              the report says how many bits entered and how many left
 --   Lowest     the lowest index at or after a number, below n, that passes a test, or nothing
@@ -18,6 +19,10 @@ Fit n ws = (k : ℕ) → k < words_for n → slice_index ws k < 2 ^ 64
 
 abbrev pub Clean : ℕ → List ℕ → Type 0
 Clean n ws = (i : ℕ) → n ≤ i → i < 64 * words_for n → holds ws i ≡ false
+
+pub record IsRow (n : ℕ) (ws : List ℕ) : Type 0 where
+  pub enough : words_for n ≤ length ws
+  pub clean : Clean n ws
 
 -- how many of the bits below n are set in the second row and not in the first
 unfoldable pub gain : List ℕ → List ℕ → ℕ → ℕ

@@ -2,19 +2,19 @@
 // These calls are inner: the sets above see to it that an index lies in the row and a row reaches its domain.
 #![tactic(auto)]
 
-ghost use Rattle.std.specs.Prelude.{◌≡◌, ℕ, ◌+◌, ◌*◌, ◌/◌, ◌^◌, ◌<◌, ◌≤◌, Bool, true, false, not, ◌++◌, length, drop, replicate, if◌then◌else◌, vec_len, nat_lt};
-ghost use Rattle.rows.specs.Members.{Becomes, Fit, Clean, Lowest};
-ghost use Rattle.words.specs.Bits.{bit, holds, one, tally, words_for};
-ghost use Rattle.words.specs.Rows.{Rewritten, put, enters};
+ghost use Rattle.std.specs.Prelude.{◌≡◌, ℕ, ◌+◌, ◌*◌, ◌/◌, ◌^◌, ◌<◌, ◌≤◌, Bool, true, false, not, ◌++◌, length, drop, replicate, if◌then◌else◌, vec_len};
+ghost use Rattle.rows.specs.Members.{Becomes, Fit, IsRow, Lowest};
+ghost use Rattle.words.specs.Bits.{holds, one, words_for};
+ghost use Rattle.words.specs.Rows.{Rewritten, put};
 ghost use Rattle.words.specs.Tables.{look};
-ghost use Rattle.mask.specs.Kinds.{Tells};
 
 use words::{
-    Operator, Second, WORD_BITS, Word, insert, min_bit, num_words, remove, update_words,
-    word_below, word_index_and_mask, would_modify_words,
+    Operator, WORD_BITS, Word, clear_excess_bits_in_final_word, count_ones, min_bit, num_words,
+    turned, update_words, word_below, word_index_and_mask, write,
 };
 
 // Whether the index's bit is set.
+#[tactic(auto, using(crate::proofs::RowWords::bit_tested))]
 pub fn has_bit(words: &[Word], index: usize) -> bool
     requires { index / 64 < length words.now }
     ensures { result ≡ holds words.now index }
@@ -29,15 +29,7 @@ pub fn write_bit(words: &mut [Word], index: usize, on: bool) -> bool
     ensures row { Rewritten (put words.old index on) words.old words.new }
     ensures value { result ≡ (if on then not (holds words.old index) else holds words.old index) }
 {
-    let written = if on {
-        insert(words, index)
-    } else {
-        remove(words, index)
-    };
-    match written {
-        Ok(turned) => turned,
-        Err(_) => false,
-    }
+    write(words, index, on).unwrap()
 }
 
 // The report of a call that turned one bit on or off, or none.
@@ -52,44 +44,21 @@ pub fn report_one(turned: bool, on: bool) -> (usize, usize)
     }
 }
 
-// The bits of word `j` that stand below `domain`.
-pub(crate) fn mask_at(domain: usize, j: usize) -> Word
-    requires { 64 * j < domain }
-    ensures { (k : ℕ) → k < 64 → bit result k ≡ nat_lt (64 * j + k) domain }
-{
-    word_below(domain, j)
-}
-
-// How many bits come and how many go from `old` to `new`.
-pub fn turned(old: Word, new: Word) -> (usize, usize)
-    ensures came { result.0 ≡ tally (λ k. enters (bit old k) (bit new k)) 0 64 }
-    ensures went { result.1 ≡ tally (λ k. enters (bit new k) (bit old k)) 0 64 }
-{
-    (
-        (new & !old).count_ones() as usize,
-        (old & !new).count_ones() as usize,
-    )
-}
-
 // Sets or clears every bit of the row below `domain`, and answers how many came and how many went.
 pub fn fill_row(own: &mut [Word], domain: usize, on: bool) -> (usize, usize)
-    requires enough { words_for domain ≤ length own.old }
-    requires clean { Clean domain own.old }
+    requires { IsRow domain own.old }
     ensures { Becomes (λ _. on) domain own.old own.new result }
 {
-    let n = num_words(domain);
-    let mut came = 0;
-    let mut went = 0;
-    for j in 0..n {
-        let old = own[j];
-        let mask = mask_at(domain, j);
-        let new = if on { mask } else { 0 };
-        let (c, w) = turned(old, new);
-        own[j] = new;
-        came += c;
-        went += w;
+    let row = &mut own[0..num_words(domain)];
+    let members = count_ones(row);
+    if on {
+        row.fill(Word::MAX);
+        clear_excess_bits_in_final_word(domain, row);
+        (domain - members, 0)
+    } else {
+        row.fill(0);
+        (0, members)
     }
-    (came, went)
 }
 
 // Combines the row with another, over `domain` bits, and answers how many came and how many went.
@@ -99,10 +68,9 @@ pub fn combine_row<O: Operator>(
     other: &[Word],
     domain: usize,
 ) -> (usize, usize)
-    requires enough { words_for domain ≤ length own.old }
-    requires other_enough { words_for domain ≤ length other.now }
+    requires row { IsRow domain own.old }
     requires fit { Fit domain own.old }
-    requires clean { Clean domain own.old }
+    requires other_enough { words_for domain ≤ length other.now }
     ensures { Becomes (λ i. look (O.table op.now) (holds own.old i) (holds other.now i)) domain own.old own.new result }
 {
     let whole = domain / WORD_BITS;
@@ -112,7 +80,7 @@ pub fn combine_row<O: Operator>(
     }
     // Bits past the domain would count and would stay, so the last word goes by itself.
     let old = own[whole];
-    let new = op.apply(old, other[whole]) & mask_at(domain, whole);
+    let new = op.apply(old, other[whole]) & word_below(domain, whole);
     own[whole] = new;
     let (came, went) = turned(old, new);
     (entered + came, left + went)
@@ -124,27 +92,14 @@ pub fn next_set(words: &[Word], from: usize) -> Option<usize>
     ensures { Lowest (holds words.now) from (64 * length words.now) result }
 {
     let (start, mask) = word_index_and_mask(from);
-    if start >= words.len() {
-        return None;
-    }
     // Mask out all bits below `from`.
-    let first = words[start] & !(mask - 1);
+    let first = words.get(start)? & !(mask - 1);
     if let Some(bit) = min_bit(first) {
         return Some(WORD_BITS * start + bit);
     }
-    for k in start + 1..words.len() {
-        if let Some(bit) = min_bit(words[k]) {
-            return Some(WORD_BITS * k + bit);
-        }
-    }
-    None
-}
-
-// Whether two rows are the same words.
-pub fn same_words(lhs: &[Word], rhs: &[Word]) -> bool
-    ensures { Tells result (lhs.now ≡ rhs.now) }
-{
-    lhs.len() == rhs.len() && !would_modify_words(lhs, rhs, &Second)
+    let later = &words[start + 1..];
+    let k = later.iter().position(|word| *word != 0)?;
+    Some(WORD_BITS * (start + 1 + k) + min_bit(later[k])?)
 }
 
 // Clears the first `n` words.
@@ -153,7 +108,5 @@ pub fn clear_words(words: &mut Vec<Word>, n: usize)
     ensures len { vec_len words.new ≡ vec_len words.old }
     ensures items { words.new.items ≡ replicate n 0 ++ drop n words.old.items }
 {
-    for i in 0..n {
-        words[i] = 0;
-    }
+    words[0..n].fill(0);
 }

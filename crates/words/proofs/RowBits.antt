@@ -1,15 +1,14 @@
 -- Laws of the bits of a row.
-use Rattle.std.proofs.Common.{◌≡◌, ℕ, ◌+◌, ◌-◌, ◌*◌, ◌/◌, ◌%◌, ◌^◌, ◌<◌, ◌≤◌, Bool, true, false, cond, not, ◌&&◌, ◌||◌, eqb, ltb, List, length, get_or, take, drop, set, sym, refl, ap, ◌∙◌, subst, ap₂, inl, inr, zero-add, arith}
-use lib.Bits.{bit_and, bit_or}
-use lib.Count.{ones}
+use Rattle.std.proofs.Common.{◌≡◌, ℕ, ◌+◌, ◌-◌, ◌*◌, ◌/◌, ◌%◌, ◌^◌, ◌<◌, ◌≤◌, Bool, true, false, cond, not, ◌&&◌, ◌||◌, eqb, ltb, List, length, get_or, take, drop, set, sym, refl, ap, ◌∙◌, subst, ap₂, inl, inr, arith}
+use lib.Bits.{bit_and, bit_or, and_le_l}
 use lib.Pow.{pow-lt}
 use Rattle.std.proofs.lemmas.List.{length-take, length-drop, get_or-take, get_or-drop, get_or-set_same, get_or-set_other, length-set, get_or_past}
+use Rattle.std.proofs.Math.Bool.{and-true}
 use Rattle.std.proofs.lemmas.Bool.{cases_eq, cases_lt, eq-eqb, ne_eqb, lt-ltb, and_left}
 use Rattle.std.proofs.lemmas.Bool.Decides.{nat_tests}
-use Rattle.words.specs.Bits.{bit, holds, tally}
+use Rattle.words.specs.Bits.{bit, holds}
 use Rattle.words.specs.Rows.{Rewritten, put, trimmed}
-use Rattle.words.proofs.Bitwise.{bit_none, bit-bit_and, bit-bit_or, bit_not, bit-pow, same_bits, ones_tally}
-use Rattle.words.proofs.Tallies.{tally_add, tally_same}
+use Rattle.words.proofs.Bitwise.{bit_none, bit-bit_and, bit-bit_or, bit_not, bit-pow, bit_of_ones, same_bits}
 
 pub holds_word : (ws : List ℕ) (j k : ℕ) → k < 64 → holds ws (64 * j + k) ≡ bit (get_or ws j 0) k
 unfolding holds
@@ -60,15 +59,6 @@ set_rest f ws j w within small read bits k stays = elim (cases_eq k j) [
       ap (λ x. get_or (set ws j w) x 0) e ∙ get_or-set_same ws j w 0 within ∙ same ∙ ap (λ x. get_or ws x 0) (sym e))
   | inr ne ↦ get_or-set_other ws j k w 0 ne
 ]
-
--- ---- counting the set bits, word by word
-
-pub tally_word : (ws : List ℕ) (j : ℕ) → get_or ws j 0 < 2 ^ 64 → tally (holds ws) 0 (64 * (j + 1)) ≡ tally (holds ws) 0 (64 * j) + ones (get_or ws j 0)
-tally_word ws j h =
-    let e : 64 * (j + 1) ≡ 64 * j + 64 = omega arith in
-    ap (tally (holds ws) 0) e ∙ tally_add (holds ws) 0 (64 * j) 64
-    ∙ ap (λ x. tally (holds ws) 0 (64 * j) + x)
-    (tally_same (holds ws) (bit (get_or ws j 0)) (0 + 64 * j) 0 64 (λ k l. rw (zero-add, zero-add) (holds_word ws j k l)) ∙ sym (ones_tally 64 (get_or ws j 0) h))
 
 -- ---- one bit written
 
@@ -137,19 +127,15 @@ bit_on w m k = bit-bit_or w (2 ^ m) k ∙ ap (λ x. bit w k || x) (bit-pow m k) 
 
 pub bit_off : (w m k : ℕ) → m < 64 → k < 64 → bit (bit_and w (2 ^ 64 - 1 - 2 ^ m)) k ≡ cond (eqb k m) false (bit w k)
 bit_off w m k l h =
-    bit-bit_and w (2 ^ 64 - 1 - 2 ^ m) k ∙ ap (λ x. bit w k && x) (bit_not 64 (2 ^ m) k (pow-lt l) h ∙ ap not (bit-pow m k)) ∙ bit_and_cond (bit w k) (eqb k m)
+    bit-bit_and w (2 ^ 64 - 1 - 2 ^ m) k ∙ ap (λ x. bit w k && x) (bit_not (2 ^ m) k (pow-lt l) h ∙ ap not (bit-pow m k)) ∙ bit_and_cond (bit w k) (eqb k m)
 
 -- ---- the last word trimmed
 
-both_true : (x : Bool) → (x && true) ≡ x
-both_true true = refl
-both_true false = refl
-
-pub trimmed_none : (r : ℕ) (ws : List ℕ) (i : ℕ) → r ≡ 0 → trimmed r ws i ≡ holds ws i
+trimmed_none : (r : ℕ) (ws : List ℕ) (i : ℕ) → r ≡ 0 → trimmed r ws i ≡ holds ws i
 unfolding trimmed
-trimmed_none r ws i e = ap (λ x. holds ws i && (x || ltb i (64 * (length ws - 1) + r))) (eq-eqb r 0 e) ∙ both_true (holds ws i)
+trimmed_none r ws i e = ap (λ x. holds ws i && (x || ltb i (64 * (length ws - 1) + r))) (eq-eqb r 0 e) ∙ and-true (holds ws i)
 
-pub trimmed_past : (r : ℕ) (ws : List ℕ) (i : ℕ) → holds ws i ≡ false → trimmed r ws i ≡ false
+trimmed_past : (r : ℕ) (ws : List ℕ) (i : ℕ) → holds ws i ≡ false → trimmed r ws i ≡ false
 unfolding trimmed
 trimmed_past r ws i e = and_left (holds ws i) (eqb r 0 || ltb i (64 * (length ws - 1) + r)) e
 
@@ -168,10 +154,30 @@ module _ (ws : List ℕ) (j r w v : ℕ) (last : j + 1 ≡ length ws) (some : 0 
         let old : w ≡ get_or ws (i / 64) 0 = read ∙ ap (λ x. get_or ws x 0) (sym e) in
         holds-set_same ws j v i (omega arith) e ∙ low (i % 64) ∙ ap₂ (λ x y. bit x (i % 64) && y) old f ∙ sym (open_at i))
     | inr ne ↦ holds-set_other ws j v i ne ∙ elim (cases_lt i (64 * j)) [
-      | inl l ↦ sym (open_at i ∙ ap (λ x. holds ws i && x) (lt-ltb i (64 * j + r) (omega arith)) ∙ both_true (holds ws i))
+      | inl l ↦ sym (open_at i ∙ ap (λ x. holds ws i && x) (lt-ltb i (64 * j + r) (omega arith)) ∙ and-true (holds ws i))
       | inr l ↦ (let past = holds_past ws i (omega arith) in past ∙ sym (trimmed_past r ws i past))
     ]
   ]
 
-  pub trim_row : w < 2 ^ 64 → Rewritten (trimmed r ws) ws (set ws j v)
+  trim_row : w < 2 ^ 64 → Rewritten (trimmed r ws) ws (set ws j v)
   trim_row fits = record { long = length-set ws j v; bits = trim_bits; fit = set_fit ws j v (omega arith) small; rest = set_rest (trimmed r ws) ws j v (omega arith) small (subst (λ x. x < 2 ^ 64) read fits) trim_bits }
+
+pub trimmed_last : (ws : List ℕ) (r : ℕ) → 0 < length ws → 0 < r → r < 64 → get_or ws (length ws - 1) 0 < 2 ^ 64
+    → Rewritten (trimmed r ws) ws (set ws (length ws - 1) (bit_and (get_or ws (length ws - 1) 0) (1 * 2 ^ r % 2 ^ 64 - 1)))
+trimmed_last ws r some low high fits =
+    let w = get_or ws (length ws - 1) 0 in
+    let mask : ℕ = 1 * 2 ^ r % 2 ^ 64 - 1 in
+    trim_row ws (length ws - 1) r w (bit_and w mask) (omega arith) low high refl (omega (arith, and_le_l w mask))
+    (λ k. bit-bit_and w mask k ∙ ap (λ x. bit w k && x) (bit_of_ones r k high)) fits
+
+-- where the domain ends with a word, or there is no word, there is nothing to clear
+pub trimmed_whole : (ws : List ℕ) (r : ℕ) → r ≡ 0 → Rewritten (trimmed r ws) ws ws
+trimmed_whole ws r e = record { long = refl; bits = λ i. sym (trimmed_none r ws i e); fit = λ k h. h; rest = λ k h. refl }
+
+pub trimmed_empty : (ws : List ℕ) (r : ℕ) → length ws ≡ 0 → Rewritten (trimmed r ws) ws ws
+trimmed_empty ws r e = record {
+  long = refl;
+  bits = λ i. let past = holds_past ws i (omega (arith, e)) in past ∙ sym (trimmed_past r ws i past);
+  fit = λ k h. h;
+  rest = λ k h. refl;
+}

@@ -9,6 +9,8 @@
 --   entered     how many bits went from 0 to 1, left how many from 1 to 0
 --   capped      what a number of 64 bits can say of a count
 --   changed     whether a report says that any bit changed
+--   modifies    whether a table would change any bit of a row
+--   Updated     a row went through a table with another, and a report says how many bits entered and how many left
 use Rattle.std.specs.Prelude.{◌≡◌, ℕ, ◌+◌, ◌-◌, ◌*◌, ◌^◌, ◌<◌, ◌≤◌, min, Bool, true, false, cond, not, ◌&&◌, ◌||◌, List, length, Ok, Err, Result, ◌==◌, nat_lt, slice_index}
 use Rattle.index.specs.declared.refusal.Refusal.{Refusal}
 use Rattle.index.specs.declared.refusal.Refusal.TheVariants.{Index}
@@ -40,6 +42,12 @@ trimmed r ws i = holds ws i && (r == 0 || nat_lt i (64 * (length ws - 1) + r))
 abbrev pub shared : List ℕ → List ℕ → ℕ
 shared us vs = 64 * min (length us) (length vs)
 
+abbrev pub capped : ℕ → ℕ
+capped n = min n (2 ^ 64 - 1)
+
+abbrev pub changed : ℕ → ℕ → Bool
+changed e l = nat_lt 0 e || nat_lt 0 l
+
 module _ (t : Table) (us vs : List ℕ) where
   unfoldable pub combined : ℕ → Bool
   combined i = cond (nat_lt i (shared us vs)) (look t (holds us i) (holds vs i)) (holds us i)
@@ -50,8 +58,10 @@ module _ (t : Table) (us vs : List ℕ) where
   unfoldable pub left : ℕ
   left = tally (λ i. enters (look t (holds us i) (holds vs i)) (holds us i)) 0 (shared us vs)
 
-abbrev pub capped : ℕ → ℕ
-capped n = min n (2 ^ 64 - 1)
+  abbrev pub modifies : Bool
+  modifies = changed entered left
 
-abbrev pub changed : ℕ → ℕ → Bool
-changed e l = nat_lt 0 e || nat_lt 0 l
+  pub record Updated (new : List ℕ) (report : ℕ × ℕ) : Type 0 where
+    pub row : Rewritten combined us new
+    pub entered : report.0 ≡ capped entered
+    pub left : report.1 ≡ capped left

@@ -32,31 +32,21 @@ pub struct ComplementOperand<O> {
     pub below: O,
 }
 
-fn or_words(own: Word, operand: Word) -> Word
-    ensures { Applied or_table own operand result }
-{
-    own | operand
-}
-
-fn and_words(own: Word, operand: Word) -> Word
-    ensures { Applied and_table own operand result }
-{
-    own & operand
-}
-
 impl Operator for Or {
     ghost table = { λ _. or_table };
 
+    #[tactic(auto, using(crate::proofs::Looking::bit_of_or))]
     fn apply(&self, own: Word, operand: Word) -> Word {
-        or_words(own, operand)
+        own | operand
     }
 }
 
 impl Operator for And {
     ghost table = { λ _. and_table };
 
+    #[tactic(auto, using(crate::proofs::Looking::bit_of_and))]
     fn apply(&self, own: Word, operand: Word) -> Word {
-        and_words(own, operand)
+        own & operand
     }
 }
 
@@ -69,41 +59,31 @@ impl Operator for Second {
 }
 
 // Every bit set where `on`, none otherwise.
+#[tactic(auto, using(crate::proofs::Bitwise::bit_of_max, crate::proofs::Bitwise::bit_none))]
 fn spread(on: bool) -> Word
     ensures { (k : ℕ) → k < 64 → bit result k ≡ on }
 {
     if on { Word::MAX } else { 0 }
 }
 
-fn table_words(table: Table, own: Word, operand: Word) -> Word
-    ensures { Applied table own operand result }
-{
-    let without = !operand & spread(table.neither) | operand & spread(table.operand_only);
-    let with = !operand & spread(table.own_only) | operand & spread(table.both);
-    !own & without | own & with
-}
-
 // Any of the sixteen tables, held as a value.
 impl Operator for Table {
     ghost table = { λ t. t };
 
+    #[tactic(auto, using(crate::proofs::Looking::bit_of_table))]
     fn apply(&self, own: Word, operand: Word) -> Word {
-        table_words(*self, own, operand)
+        let without = !operand & spread(self.neither) | operand & spread(self.operand_only);
+        let with = !operand & spread(self.own_only) | operand & spread(self.both);
+        !own & without | own & with
     }
-}
-
-// The word with every bit turned.
-fn complement(word: Word) -> Word
-    ensures { (k : ℕ) → k < 64 → bit result k ≡ not (bit word k) }
-{
-    !word
 }
 
 impl<O: Operator> Operator for ComplementOperand<O> {
     ghost table = { λ c. complemented (O.Operator.table c.below) };
 
+    #[tactic(auto, using(crate::proofs::Looking::look_of_complement))]
     fn apply(&self, own: Word, operand: Word) -> Word {
-        self.below.apply(own, complement(operand))
+        self.below.apply(own, !operand)
     }
 }
 

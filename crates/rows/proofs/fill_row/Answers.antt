@@ -1,37 +1,44 @@
-use Rattle.std.proofs.Common.{◌≡◌, ℕ, ◌+◌, ◌*◌, ◌<◌, ◌≤◌, ◌&&◌, ltb, get_or, set, sym, ap, ◌∙◌, le_refl, arith}
-use Rattle.words.specs.Bits.{bit}
-use Rattle.words.proofs.Bitwise.{bit_none}
-use Rattle.rows.proofs.Loops.{Done, done_none, done_more, done_cap, done_all, under, under_past, under_below}
+-- The members are counted, and the row's words are written alike up to the domain.
+use Rattle.std.proofs.Common.{◌≡◌, ℕ, ◌-◌, ◌%◌, ◌^◌, ◌<◌, List, take, replicate, length, ap, ◌∙◌, subst, arith}
+use Rattle.std.proofs.lemmas.List.{length-take-le}
+use Rattle.words.specs.Bits.{holds, tally, set_bits, words_for}
+use Rattle.words.specs.Rows.{Rewritten, trimmed}
+use Rattle.words.proofs.Tallies.{tally_le}
+use Rattle.rows.specs.Members.{IsRow}
+use Rattle.rows.proofs.Filling.{set_below, cleared, filled}
 use Rattle.rows.proofs.fill_row.Goals as goal
-use Rattle.rows.proofs.fill_row.Goals.{then-on, else-on}
 
-pub loop-j-init : goal.loop-j-init
-loop-j-init c = done_none _ _
+members : (n w x : ℕ) (own : List ℕ) → n < 2 ^ 64 → IsRow n own → w ≡ words_for n → x ≡ set_bits (take (w - 0) own) % 2 ^ 64 → x ≡ tally (holds own) 0 n
+members n w x own small row ew e =
+    let s : w - 0 ≡ words_for n = omega (arith, ew) in
+    e ∙ ap (λ k. set_bits (take k own) % 2 ^ 64) s ∙ set_below n own small row.enough row.clean
 
-new_bit : (c : goal.After-turned-c) (k : ℕ) → k < 64 → bit c.if-on.new k ≡ (c.args.on && ltb (64 * c.loop-j.j + k) c.args.domain)
-new_bit c k h = elim c.if-on.branch [
-  | then-on t ↦ ap (λ x. bit x k) t.new-is ∙ c.mask_at-mask.ensures k h ∙ ap (λ b. b && ltb (64 * c.loop-j.j + k) c.args.domain) (sym t.if-on.true)
-  | else-on t ↦ ap (λ x. bit x k) t.new-is ∙ bit_none k ∙ ap (λ b. b && ltb (64 * c.loop-j.j + k) c.args.domain) (sym t.if-on.false)
-]
+-- the first words of the row, as many as were lent
+lent : (n w m : ℕ) (own ws : List ℕ) → IsRow n own → w ≡ words_for n → ws ≡ replicate (length (take (w - 0) own)) m → ws ≡ replicate (words_for n) m
+lent n w m own ws row ew e =
+    let s : w - 0 ≡ words_for n = omega (arith, ew) in
+    e ∙ ap (λ k. replicate k m) (ap (λ k. length (take k own)) s ∙ length-take-le (words_for n) own row.enough)
 
-next : (c : goal.After-turned-c) → Done (under (λ _. c.args.on) c.args.domain) c.args.own.now (set c.loop-j.own c.loop-j.j c.if-on.new) (c.loop-j.j + 1) (c.loop-j.came + c.turned-c.result.0) (c.loop-j.went + c.turned-c.result.1)
-next c =
-    done_more (under (λ _. c.args.on) c.args.domain) c.args.own.now c.loop-j.own c.loop-j.j c.loop-j.came c.loop-j.went (get_or c.loop-j.own c.loop-j.j 0) c.if-on.new c.turned-c.result.0 c.turned-c.result.1
-    c.loop-j.invariant (omega arith) (omega arith) (c.loop-j.invariant.rest c.loop-j.j (le_refl c.loop-j.j)) (new_bit c) c.turned-c.ensures.came c.turned-c.ensures.went
+pub overflow_sub-result : goal.overflow_sub-result
+overflow_sub-result c =
+    let e = members c.args.domain c.num_words.result c.count_ones-members.result c.args.own.now (omega arith) c.requires c.num_words.ensures c.count_ones-members.ensures in
+    omega (arith, e, tally_le (holds c.args.own.now) 0 c.args.domain)
 
-cap : (c : goal.After-turned-c) → (c.loop-j.came + c.turned-c.result.0 ≤ c.args.domain) × (c.loop-j.went + c.turned-c.result.1 ≤ c.args.domain)
-cap c = done_cap (under (λ _. c.args.on) c.args.domain) c.args.domain c.args.own.now _ (c.loop-j.j + 1) _ _ (next c) c.requires.clean (under_past (λ _. c.args.on) c.args.domain) (omega arith)
+pub returns-then-on : goal.returns-then-on
+returns-then-on c =
+    let n = c.args.domain in
+    let own = c.args.own.now in
+    let s : c.num_words.result - 0 ≡ words_for n = omega (arith, c.num_words.ensures) in
+    let m = members n c.num_words.result c.count_ones-members.result own (omega arith) c.requires c.num_words.ensures c.count_ones-members.ensures in
+    let e = lent n c.num_words.result (2 ^ 64 - 1) own c.fill.new.self c.requires c.num_words.ensures (c.fill.ensures.after (λ y h. h)) in
+    let r = subst (λ ws. Rewritten (trimmed (n % 64) ws) ws c.clear_excess_bits_in_final_word.new.words) e c.clear_excess_bits_in_final_word.ensures in
+    rw (c.if-on.true, s, m) (filled n own c.clear_excess_bits_in_final_word.new.words c.requires r)
 
-pub overflow_add-came : goal.overflow_add-came
-overflow_add-came c = omega (arith, (cap c).0)
-
-pub overflow_add-went : goal.overflow_add-went
-overflow_add-went c = omega (arith, (cap c).1)
-
-pub loop-j-preserved : goal.loop-j-preserved
-loop-j-preserved c = next c
-
-pub returns : goal.returns
-returns c =
-    done_all (under (λ _. c.args.on) c.args.domain) c.args.domain c.args.own.now c.loop-j.own c.loop-j.j c.loop-j.came c.loop-j.went c.loop-j.invariant c.requires.clean
-    (under_past (λ _. c.args.on) c.args.domain) (λ _. c.args.on) (under_below (λ _. c.args.on) c.args.domain) (omega arith)
+pub returns-else-on : goal.returns-else-on
+returns-else-on c =
+    let n = c.args.domain in
+    let own = c.args.own.now in
+    let s : c.num_words.result - 0 ≡ words_for n = omega (arith, c.num_words.ensures) in
+    let m = members n c.num_words.result c.count_ones-members.result own (omega arith) c.requires c.num_words.ensures c.count_ones-members.ensures in
+    let e = lent n c.num_words.result 0 own c.fill-else-on.new.self c.requires c.num_words.ensures (c.fill-else-on.ensures.after (λ y h. h)) in
+    rw (c.if-on.false, s, m) (cleared n own c.fill-else-on.new.self c.requires e)

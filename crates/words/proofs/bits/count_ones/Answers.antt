@@ -1,26 +1,36 @@
--- Each word adds its ones, which are the set bits of its sixty-four indices.
-use Rattle.std.proofs.Common.{◌≡◌, ℕ, zero, suc, ◌+◌, ◌*◌, ◌%◌, ◌^◌, List, length, get_or, sym, refl, ap, ◌∙◌, arith}
+-- Each word adds its ones, which are its set bits.
+use Rattle.std.proofs.Common.{◌≡◌, ℕ, suc, ◌+◌, ◌*◌, ◌/◌, ◌%◌, ◌^◌, ◌<◌, List, [], ◌∷◌, length, get_or, fold, sym, ap, ◌∙◌, ap₂, add-zero, zero-add, arith, rules}
 use lib.Count.{ones}
-use Rattle.words.specs.Bits.{holds, tally, set_bits}
-use Rattle.words.proofs.RowBits.{tally_word}
-use Rattle.words.proofs.bits.count_ones.Invariants.{so_far}
+use Rattle.words.specs.Bits.{bit, holds, tally, set_bits}
+use Rattle.words.proofs.Bitwise.{ones_tally}
+use Rattle.words.proofs.Tallies.{tally_add, tally_same}
+use Rattle.words.proofs.RowBits.{holds_word}
 use Rattle.words.proofs.bits.count_ones.Goals as goal
 
-so_far_is : (ws : List ℕ) (j : ℕ) → so_far ws j ≡ tally (holds ws) 0 (64 * j)
-unfolding tally
-so_far_is ws zero = refl
-so_far_is ws (suc j) = refl
+holds-cons : (w : ℕ) (ws : List ℕ) (i : ℕ) → holds (w ∷ ws) (64 + i) ≡ holds ws i
+unfolding holds
+holds-cons w ws i =
+    let e : (64 + i) / 64 ≡ suc (i / 64) = omega arith in
+    let f : (64 + i) % 64 ≡ i % 64 = omega arith in
+    ap₂ (λ x y. bit (get_or (w ∷ ws) x 0) y) e f
 
-pub loop-word-preserved : goal.loop-word-preserved
-loop-word-preserved c =
-    let ws = c.args.words.now in
-    let j = c.loop-word.word-index in
-    let e = so_far_is ws (j + 1) ∙ tally_word ws j (omega arith) ∙ ap (λ x. x + ones (get_or ws j 0)) (sym (so_far_is ws j)) in
-    omega (arith, e)
+set_bits-cons : (w : ℕ) (ws : List ℕ) → w < 2 ^ 64 → set_bits (w ∷ ws) ≡ ones w + set_bits ws
+unfolding set_bits
+set_bits-cons w ws small =
+    let e : 64 * suc (length ws) ≡ 64 + 64 * length ws = omega arith in
+    ap (tally (holds (w ∷ ws)) 0) e ∙ tally_add (holds (w ∷ ws)) 0 64 (64 * length ws)
+    ∙ ap₂ (λ x y. x + y) (tally_same (holds (w ∷ ws)) (bit w) 0 0 64 (λ k h. let s : 0 + k ≡ 64 * 0 + k = omega arith in ap (holds (w ∷ ws)) s ∙ holds_word (w ∷ ws) 0 k h ∙ ap (bit w) (sym (zero-add k))) ∙ sym (ones_tally 64 w small))
+    (tally_same (holds (w ∷ ws)) (holds ws) (0 + 64) 0 (64 * length ws) (λ i h. rw (zero-add, zero-add) (holds-cons w ws i)))
+
+added : (ws : List ℕ) (a : ℕ) → ((k : ℕ) → get_or ws k 0 < 2 ^ 64) → fold (λ t w. (t + ones w) % 2 ^ 64) (a % 2 ^ 64) ws ≡ (a + set_bits ws) % 2 ^ 64
+unfolding set_bits tally
+added [] a small = ap (λ n. n % 2 ^ 64) (sym (add-zero a))
+added (w ∷ ws) a small =
+    let e : (a % 2 ^ 64 + ones w) % 2 ^ 64 ≡ (a + ones w) % 2 ^ 64 = omega arith in
+    let s = set_bits-cons w ws (small 0) in
+    ap (λ x. fold (λ t v. (t + ones v) % 2 ^ 64) x ws) e ∙ added ws (a + ones w) (λ k. small (suc k)) ∙ omega (arith, s)
 
 pub returns : goal.returns
-unfolding set_bits
 returns c =
-    let ws = c.args.words.now in
-    let e : c.loop-word.word-index ≡ length ws = omega arith in
-    c.loop-word.invariant ∙ ap (λ x. x % 2 ^ 64) (so_far_is ws c.loop-word.word-index ∙ ap (λ j. tally (holds ws) 0 (64 * j)) e)
+    let e : c.fold.result ≡ fold (λ t w. (t + ones w) % 2 ^ 64) 0 c.args.words.now = search rules in
+    e ∙ added c.args.words.now 0 (λ k. omega (arith, c.type_inv.words k)) ∙ ap (λ n. n % 2 ^ 64) (zero-add (set_bits c.args.words.now))
