@@ -13,23 +13,18 @@ fn made(heap: Global, domain: usize, full: bool) -> Result<DenseBitSet, Fail> {
     } else {
         DenseBitSet::new_empty(domain, words)
     };
-    match result {
-        Ok(set) => Ok(set),
-        Err(_) => Err(Fail::new("too few words")),
-    }
+    result.map_err(|_| Fail::new("too few words"))
 }
 
 #[test]
 fn too_few_words_come_back(rt: HostRuntime) -> Result<(), Fail> {
     let words = vec![in rt.alloc(); 7u64; 1]?;
-    match DenseBitSet::new_filled(65, words) {
-        Ok(_) => Err(Fail::new("one word took 65 bits")),
-        Err(refused) => {
-            assert_eq!(rt; refused.refusal, Refusal::Memory);
-            assert_eq!(rt; refused.memory.as_slice(), [7u64].as_slice());
-            Ok(())
-        }
-    }
+    let refused = DenseBitSet::new_filled(65, words)
+        .err()
+        .ok_or("one word took 65 bits")?;
+    assert_eq!(rt; refused.refusal, Refusal::Memory);
+    assert_eq!(rt; refused.memory.as_slice(), [7u64].as_slice());
+    Ok(())
 }
 
 #[test]

@@ -7,7 +7,7 @@ use Rattle.words.specs.Bits.{holds, words_for}
 use Rattle.words.specs.Rows.{changed, entered, left}
 use Rattle.words.specs.Tables.{look, or_table}
 use Rattle.rows.specs.Members.{tab, Clean}
-use Rattle.rows.proofs.Alike.{unchanged_alike, alike_unchanged}
+use Rattle.words.proofs.Updating.{unchanged_alike, alike_unchanged}
 use Rattle.rows.proofs.RowWords.{holds-take}
 use Rattle.rows.proofs.Tabs.{get_or-tab, get_or-tab_past}
 use Rattle.dense.specs.Sets.{Superset}

@@ -1,5 +1,5 @@
-// The set itself.
-ghost use Rattle.std.specs.Prelude.{◌≤◌, vec_len};
+// The set itself, and what its calls share.
+ghost use Rattle.std.specs.Prelude.{◌^◌, ◌<◌, ◌≤◌, vec_len};
 ghost use Rattle.rows.specs.Members.{Fit, Clean};
 ghost use Rattle.words.specs.Bits.{words_for};
 
@@ -11,6 +11,7 @@ use words::Word;
 pub struct DenseBitSet {
     pub(crate) domain_size: usize,
     pub(crate) words: Vec<Word>,
+    ghost small: { domain_size < 2 ^ 64 },
     ghost enough: { words_for domain_size ≤ vec_len words },
     ghost fit: { Fit domain_size words.items },
     // Bits at or past the domain are 0, so equal members have equal words.

@@ -2,10 +2,8 @@
 #![tactic(auto)]
 
 pub mod bit_set;
-mod edits;
-mod makes;
+mod inner;
 pub mod mask_calls;
-mod reads;
 pub mod set_calls;
 
 pub use bit_set::DenseBitSet;

@@ -1,48 +1,21 @@
 // A dense set as a mask.
-ghost use Rattle.dense.specs.Sets.{domain_of, members_of, rule_of, picture_of, spare_of, room, any_rule, behind};
-ghost use Rattle.words.specs.Bits.{holds};
-ghost use Rattle.rows.proofs.Tabs.{length-tab};
-ghost use Rattle.rows.proofs.RowWords.{row_seen, row_shown};
-ghost use Rattle.dense.specs.Laws.{within, spanned};
-ghost use Rattle.std.proofs.Common.{refl};
+ghost use Rattle.dense.specs.Laws.{lawful};
+ghost use Rattle.dense.specs.Sets.{dense_kind, words_backing};
 
 use crate::bit_set::DenseBitSet;
 use index::{Idx, Refusal};
 use mask::{Mask, Refused};
-use words::{Operator, Word};
+use rows::{has_bit, next_set};
+use words::{Operator, Word, count_ones};
 
 impl Mask for DenseBitSet {
     type Memory = Vec<Word>;
 
-    ghost domain = { domain_of };
+    ghost kind = { dense_kind };
 
-    ghost members = { members_of };
+    ghost backing = { words_backing };
 
-    ghost rule = { rule_of };
-
-    ghost picture = { picture_of };
-
-    ghost spare = { spare_of };
-
-    ghost suffices = { room };
-
-    ghost given = { any_rule };
-
-    ghost past = { behind };
-
-    ghost long = { λ s. length-tab (holds s.words.items) s.domain_size };
-
-    ghost held = { λ s. refl };
-
-    ghost empty = { λ s. refl };
-
-    ghost full = { λ s. refl };
-
-    ghost seen = { λ a b e. row_seen a.domain_size b.domain_size a.words.items b.words.items e };
-
-    ghost shown = { λ a b p e. row_shown a.domain_size b.domain_size a.words.items b.words.items (within a) (within b) a.fit b.fit a.clean b.clean p e };
-
-    ghost spans = { spanned };
+    ghost laws = { lawful };
 
     fn new_empty(domain_size: usize, memory: Vec<Word>) -> Result<DenseBitSet, Refused<Vec<Word>>> {
         DenseBitSet::uniform(domain_size, memory, false)
@@ -56,7 +29,11 @@ impl Mask for DenseBitSet {
     }
 
     fn into_memory(self) -> Vec<Word> {
-        self.into_words()
+        let DenseBitSet {
+            domain_size: _,
+            words,
+        } = self;
+        words
     }
 
     fn domain_size(&self) -> usize {
@@ -64,23 +41,27 @@ impl Mask for DenseBitSet {
     }
 
     fn contains<T: Idx>(&self, elem: T) -> Result<bool, Refusal> {
-        self.has(elem.index())
+        let index = elem.index();
+        if index >= self.domain_size {
+            return Err(Refusal::Index(index));
+        }
+        Ok(has_bit(self.row(), index))
     }
 
     fn count(&self) -> usize {
-        self.size()
+        count_ones(self.row())
     }
 
     fn next_member(&self, from: usize) -> Option<usize> {
-        self.seek(from)
+        next_set(self.row(), from)
     }
 
     fn member_word(&self, k: usize) -> Word {
-        self.word(k)
+        self.row().get(k).copied().unwrap_or(0)
     }
 
     fn same_picture(&self, other: &Self) -> bool {
-        self.looks_like(other)
+        other.domain_size == self.domain_size && other.row() == self.row()
     }
 
     fn insert<T: Idx>(&mut self, elem: T) -> Result<(usize, usize), Refusal> {

@@ -7,7 +7,7 @@ use Rattle.index.specs.declared.refusal.Refusal.{Refusal}
 use Rattle.mask.proofs.Decides.{length-through}
 
 -- what is in the second set and what only the first had make as many as what is in the first and what only the second has
-exchange : (xs ys : List Bool) → length xs ≡ length ys → count ys + gained ys xs ≡ count xs + gained xs ys
+pub exchange : (xs ys : List Bool) → length xs ≡ length ys → count ys + gained ys xs ≡ count xs + gained xs ys
 unfolding count gained
 exchange [] [] e = refl
 exchange [] (y ∷ ys) e = absurd (let z : ◌≡◌ {A = ℕ} 0 1 = cc in omega arith)

@@ -1,3 +1,4 @@
+pub mod Firsts
 pub mod Nexts
 pub mod Decides
 pub mod Balance

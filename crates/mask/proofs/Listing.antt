@@ -1,10 +1,8 @@
 -- A loop that puts the members, one after another, into a collector's places.
-use Rattle.std.proofs.Common.{◌≡◌, ℕ, zero, suc, ◌+◌, ◌-◌, ◌*◌, ◌<◌, ◌≤◌, Bool, true, false, cond, ◌&&◌, eqb, leb, List, [], ◌∷◌, ◌++◌, map, length, get_or, take, drop, set, Some, None, Ok, Result, sym, refl, ap, ◌∙◌, subst, inl, inr, append_assoc, arith}
+use Rattle.std.proofs.Common.{◌≡◌, ℕ, zero, suc, ◌+◌, ◌-◌, ◌*◌, ◌<◌, ◌≤◌, Bool, true, false, cond, ◌&&◌, eqb, leb, List, [], ◌∷◌, ◌++◌, map, length, get_or, take, drop, set, Some, None, sym, refl, ap, ◌∙◌, subst, inl, inr, append_assoc, arith}
 use Rattle.std.proofs.lemmas.List.{length-set, take-set-le, drop-set-add, take_more_set, map_push, drop-drop, drop-set-lt, length-drop, append-nil, length-map, length-take-le, drop_more, drop_all}
 use Rattle.mask.specs.Machine.{indices, first, next_member, count}
-use Rattle.mask.specs.Successions.{Listed, Put}
-use Rattle.index.specs.declared.refusal.Refusal.{Refusal}
-use Rattle.std.proofs.lemmas.Bool.{le-leb, lt-leb, leb-true, eq-eqb, ne_eqb, cases_lt, cases_order, and_parts, and_right, cond-true}
+use Rattle.std.proofs.lemmas.Bool.{le-leb, lt-leb, leb-true, eq-eqb, ne_eqb, cases_lt, cases_order, and_parts, and_right}
 use Rattle.mask.specs.Kinds.{Shows}
 use Rattle.mask.proofs.Nexts.{next_some}
 use Rattle.words.specs.Bits.{bit, Low}
@@ -88,9 +86,6 @@ module _ {T : Type 0} (place : T → ℕ) (bs : List Bool) (start : ℕ) (old : 
         back = drop-set-lt (filled + 1) new filled v (omega arith) ∙ sym (drop-drop 1 filled new) ∙ ap (λ (x : List T). drop 1 x) p.back ∙ drop-drop 1 filled old;
       }
 
-ok_at : {m n : ℕ} → m ≡ n → ◌≡◌ {A = Result ℕ Refusal} (Ok m) (Ok n)
-ok_at e = ap (λ (k : ℕ). Ok k) e
-
 module _ {T : Type 0} (place : T → ℕ) (bs : List Bool) (start : ℕ) (old : List T) where
   -- with none left to come, all of them stand there
   pub all_put : (filled : ℕ) (new : List T) (from : ℕ) → indices from (drop from bs) ≡ [] → (p : Partly place bs start old filled new from) → p.put ≡ count bs
@@ -112,17 +107,6 @@ module _ {T : Type 0} (place : T → ℕ) (bs : List Bool) (start : ℕ) (old : 
 
   pub partly_at : {filled filled' : ℕ} {new new' : List T} (from : ℕ) → filled' ≡ filled → new' ≡ new → Partly place bs start old filled new from → Partly place bs start old filled' new' from
   partly_at {filled} {filled'} {new} {new'} from e d p = subst (λ (x : ℕ). Partly place bs start old x new' from) (sym e) (subst (λ (y : List T). Partly place bs start old filled y from) (sym d) p)
-
-  pub listed_all : (limit n filled all : ℕ) (new : List T) (from : ℕ) → n ≤ limit → all ≡ count bs → all ≤ length old - start → indices from (drop from bs) ≡ [] → Partly place bs start old filled new from
-      → Listed limit place n bs start old filled new (Ok all)
-  listed_all limit n filled all new from covers e room none p =
-      let a : leb n limit ≡ true = le-leb n limit covers in
-      let b : leb (count bs) (length old - start) ≡ true = le-leb (count bs) (length old - start) (omega (arith, room, e)) in
-      let whole = put_all filled new from none p in
-      record {
-        answers = ok_at e ∙ sym (cond-true (leb (count bs) (length old - start)) _ _ b) ∙ sym (cond-true (leb n limit) _ _ a);
-        puts = subst (λ (k : ℕ). Put limit place bs start old filled new (Ok k)) (sym e) whole;
-      }
 
 -- ---- word by word
 

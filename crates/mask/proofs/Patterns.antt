@@ -1,5 +1,5 @@
 -- Patterns of bits as numbers, and the trials of lists on them.
-use Rattle.std.proofs.Common.{◌≡◌, ℕ, zero, suc, ◌+◌, ◌-◌, ◌*◌, ◌/◌, ◌%◌, ◌^◌, ◌<◌, ◌≤◌, Bool, true, false, cond, eqb, ltb, List, [], ◌∷◌, ◌++◌, map, length, get_or, drop, Some, None, Option, sym, refl, ap, ◌∙◌, inl, inr, le_of_suc-le-suc, mul_assoc, pow-suc, zero-add, add-one, arith}
+use Rattle.std.proofs.Common.{◌≡◌, ℕ, zero, suc, ◌+◌, ◌-◌, ◌*◌, ◌/◌, ◌%◌, ◌^◌, ◌<◌, ◌≤◌, Bool, true, false, cond, eqb, ltb, List, [], ◌∷◌, map, length, get_or, drop, Some, None, sym, refl, ap, ◌∙◌, inl, inr, le_of_suc-le-suc, mul_assoc, pow-suc, zero-add, add-one, arith}
 use native.Mathlib.Nat.{pow-succ'}
 use Rattle.std.proofs.lemmas.List.FromFn.{get_or-map-range_with_len}
 use Rattle.std.proofs.lemmas.List.{drop_more, drop_all}
@@ -10,12 +10,11 @@ use Rattle.words.specs.Tables.{look}
 use Rattle.words.specs.declared.table.Table.{Table}
 use Rattle.words.proofs.Bitwise.{bit_zero, bit-suc, same_bits}
 use Rattle.mask.specs.Kinds.{Tells}
-use Rattle.mask.specs.Trials.{Named, Plain, past_row, untried, bit_after, trial, pattern_trial, Agree}
+use Rattle.mask.specs.Trials.{Named, Plain, untried_call, untried, first_answer, bit_after, trial, pattern_trial, Agree}
 use Rattle.mask.specs.declared.calls.Call.{Call}
 use Rattle.mask.specs.declared.calls.Call.TheVariants.{Insert, Remove, Clear, InsertAll, Combine}
-use Rattle.mask.specs.declared.trials.NotTried.{NotTried}
 use Rattle.mask.specs.declared.trials.NotTried.TheVariants.{Operand}
-use Rattle.mask.proofs.Operands.{past_cons}
+use Rattle.mask.proofs.Firsts.{none_here, none_at}
 
 -- ---- bits of a number that is written in two parts
 
@@ -107,60 +106,10 @@ module _ (F G : ℕ → Bool) (round a b : ℕ) (as-F : (k : ℕ) → k < 64 →
         ap F (sym at) ∙ sym (as-F k small) ∙ ap (λ (x : ℕ). bit x k) e ∙ as-G k small ∙ ap G at)
   ]
 
--- ---- the first call that cannot be tried
-
-abbrev pub earlier : Option NotTried → Option NotTried → Option NotTried
-earlier (Some e) o = Some e
-earlier None o = o
-
-earlier_assoc : (a b c : Option NotTried) → earlier a (earlier b c) ≡ earlier (earlier a b) c
-earlier_assoc (Some e) b c = refl
-earlier_assoc None b c = refl
-
-earlier_none : (a b : Option NotTried) → earlier a b ≡ None → (a ≡ None) × (b ≡ None)
-earlier_none (Some e) b h = absurd (let z : ◌≡◌ {A = ℕ} 0 1 = cc in omega arith)
-earlier_none None b h = (refl, h)
+-- ---- lists that can be tried
 
 module _ {T O : Type 0} where
-  untried_cons : (c : Call T O) (cs : List (Call T O)) → untried (c ∷ cs) ≡ earlier (untried (c ∷ [])) (untried cs)
-  unfolding untried
-  untried_cons (Insert i) cs = refl
-  untried_cons (Remove i) cs = refl
-  untried_cons Clear cs = refl
-  untried_cons InsertAll cs = refl
-  untried_cons (Combine o j) cs = go (ltb j 16) where
-    go : (b : Bool) → cond b (untried cs) (Some (Operand j)) ≡ earlier (cond b None (Some (Operand j))) (untried cs)
-    go true = refl
-    go false = refl
-
-  untried_append : (xs ys : List (Call T O)) → untried (xs ++ ys) ≡ earlier (untried xs) (untried ys)
-  unfolding untried
-  untried_append [] ys = refl
-  untried_append (c ∷ xs) ys =
-      untried_cons c (xs ++ ys) ∙ ap (earlier (untried (c ∷ []))) (untried_append xs ys)
-      ∙ earlier_assoc (untried (c ∷ [])) (untried xs) (untried ys) ∙ ap (λ (o : Option NotTried). earlier o (untried ys)) (sym (untried_cons c xs))
-
-  pub untried_both : (xs ys : List (Call T O)) (o : Option NotTried) → o ≡ untried xs → earlier o (untried ys) ≡ untried (xs ++ ys)
-  untried_both xs ys o e = ap (λ (x : Option NotTried). earlier x (untried ys)) e ∙ sym (untried_append xs ys)
-
-  pub both_tried : (xs ys : List (Call T O)) → untried (xs ++ ys) ≡ None → (untried xs ≡ None) × (untried ys ≡ None)
-  both_tried xs ys h = earlier_none (untried xs) (untried ys) (sym (untried_append xs ys) ∙ h)
-
-  -- a loop over the list, at the call at k
-  pub untried_more : (cs : List (Call T O)) (k : ℕ) (c : Call T O) (o : Option NotTried) → k < length cs → c ≡ get_or cs k c → o ≡ untried (c ∷ []) → untried (drop k cs) ≡ untried cs → earlier o (untried (drop (k + 1) cs)) ≡ untried cs
-  untried_more cs k c o l is e inv =
-      ap (λ (x : Option NotTried). earlier x (untried (drop (k + 1) cs))) e ∙ sym (untried_cons c (drop (k + 1) cs))
-      ∙ ap (λ (x : Call T O). untried (x ∷ drop (k + 1) cs)) is ∙ ap untried (sym (drop_more cs k c l)) ∙ inv
-
-  pub untried_none : (cs : List (Call T O)) (k : ℕ) → length cs ≤ k → untried (drop k cs) ≡ untried cs → None ≡ untried cs
-  unfolding untried
-  untried_none cs k l inv = ap untried (sym (drop_all k cs l)) ∙ inv
-
-  tried_parts : (c : Call T O) (cs : List (Call T O)) → untried (c ∷ cs) ≡ None → (untried (c ∷ []) ≡ None) × (untried cs ≡ None)
-  tried_parts c cs h = earlier_none (untried (c ∷ [])) (untried cs) (sym (untried_cons c cs) ∙ h)
-
-  tried_named : (c : Call T O) → untried (c ∷ []) ≡ None → Named 16 c
-  unfolding untried
+  tried_named : (c : Call T O) → untried_call c ≡ None → Named 16 c
   tried_named (Insert i) h = tt
   tried_named (Remove i) h = tt
   tried_named Clear h = tt
@@ -170,19 +119,18 @@ module _ {T O : Type 0} where
     go true e p = ltb-true j 16 e
     go false e p = absurd (let z : ◌≡◌ {A = ℕ} 0 1 = cc in omega arith)
 
-  pub tried_row : (cs : List (Call T O)) → untried cs ≡ None → past_row 16 cs ≡ None
-  unfolding past_row
-  tried_row [] h = refl
-  tried_row (c ∷ cs) h = let t = tried_parts c cs h in past_cons 16 c cs (tried_named c t.0) ∙ tried_row cs t.1
+  -- every call of such a list names an operand that has a pattern
+  pub tried_row : (cs : List (Call T O)) → untried cs ≡ None → (k : ℕ) (c : Call T O) → k < length cs → Named 16 (get_or cs k c)
+  tried_row cs h k c l = tried_named (get_or cs k c) (none_at untried_call cs h k c l)
 
   pub tried_plain : (cs : List (Call T O)) → untried cs ≡ None → Plain cs
-  unfolding untried Plain
+  unfolding Plain first_answer
   tried_plain [] h = tt
   tried_plain (Insert i ∷ cs) h = let z : ◌≡◌ {A = ℕ} 0 1 = cc in omega arith
   tried_plain (Remove i ∷ cs) h = let z : ◌≡◌ {A = ℕ} 0 1 = cc in omega arith
   tried_plain (Clear ∷ cs) h = tried_plain cs h
   tried_plain (InsertAll ∷ cs) h = tried_plain cs h
-  tried_plain (Combine o j ∷ cs) h = tried_plain cs (tried_parts (Combine o j) cs h).1
+  tried_plain (Combine o j ∷ cs) h = tried_plain cs (none_here untried_call (Combine o j) cs h).1
 
 -- ---- trials on patterns
 
@@ -211,7 +159,7 @@ module _ {T O : Type 0} (place : T → ℕ) (table : O → Table) where
   unfolding trial
   trial_alike p q h b [] u = refl
   trial_alike p q h b (c ∷ cs) u =
-      let t = tried_parts c cs u in
+      let t = none_here untried_call c cs u in
       ap (λ (x : Bool). trial place table p x cs) (after_alike p q h b c (tried_named c t.0)) ∙ trial_alike p q h (bit_after place table q b c) cs t.1
 
   -- a pattern with the start's bit in front

@@ -2,12 +2,14 @@
 use Rattle.std.proofs.Common.{◌≡◌, ℕ, suc, ◌+◌, ◌<◌, ◌≤◌, Bool, List, [], ◌∷◌, ◌++◌, map, length, get_or, take, drop, set, sym, refl, ap, ◌∙◌, subst, append_assoc, arith}
 use Rattle.std.proofs.lemmas.List.{length-set, take-set-le, drop-set-add, take_more_set, drop-drop, drop-set-lt, length-drop, length_push, drop_more, drop_all, append-nil, get_or-map}
 use Rattle.mask.specs.Machine.{Move, clear, step, run, Rule, Report}
-use Rattle.mask.specs.Successions.{Appended, Ran}
+use Rattle.mask.specs.Collectors.{held, SameLoan, Appended, Gathered}
+use Rattle.mask.specs.Successions.{Ran}
+use Rattle.mask.specs.declared.collector.Collector.{Collector}
 
-pub appended_none : {X : Type 0} (filled : ℕ) (old : List X) → Appended [] filled old filled old
+appended_none : {X : Type 0} (filled : ℕ) (old : List X) → Appended [] filled old filled old
 appended_none filled old = record { counts = omega arith; long = refl; before = refl; holds = refl; behind = refl }
 
-pub appended_more : {X : Type 0} (items : List X) (start : ℕ) (old : List X) (filled : ℕ) (new : List X) (x : X) → filled < length new → Appended items start old filled new → Appended (items ++ x ∷ []) start old (filled + 1) (set new filled x)
+appended_more : {X : Type 0} (items : List X) (start : ℕ) (old : List X) (filled : ℕ) (new : List X) (x : X) → filled < length new → Appended items start old filled new → Appended (items ++ x ∷ []) start old (filled + 1) (set new filled x)
 appended_more items start old filled new x room a =
     let k : ℕ = length items in
     let more : length (items ++ x ∷ []) ≡ k + 1 = length_push items x in
@@ -48,8 +50,17 @@ unfolding run
 midway_all n rule from ms done bs k h m =
     m ∙ ap (λ (l : List Move). (done ++ (run n rule bs l).0, (run n rule bs l).1)) (drop_all k ms h) ∙ ap (λ (l : List Report). (l, bs)) (append-nil done)
 
-pub appended_at : {X : Type 0} {items : List X} {start : ℕ} {old : List X} {filled filled' : ℕ} {new new' : List X} → filled' ≡ filled → new' ≡ new → Appended items start old filled new → Appended items start old filled' new'
-appended_at {X} {items} {start} {old} {filled} {filled'} {new} {new'} e d a = subst (λ (x : ℕ). Appended items start old x new') (sym e) (subst (λ (y : List X). Appended items start old filled y) (sym d) a)
+pub gathered_none : {X : Type 0} (c : Collector X) → Gathered [] c c
+gathered_none c = record { puts = appended_none c.filled (held c); loan = refl }
+
+-- one item more, by what a push leaves
+pub gathered_more : {X : Type 0} (items : List X) (start c d : Collector X) (x : X) → c.filled < length (held c) → held d ≡ set (held c) c.filled x → d.filled ≡ c.filled + 1 → SameLoan c d
+    → Gathered items start c → Gathered (items ++ x ∷ []) start d
+gathered_more {X} items start c d x room places count loan g = record {
+  puts = subst (λ (n : ℕ). Appended (items ++ x ∷ []) start.filled (held start) n (held d)) (sym count)
+      (subst (λ (l : List X). Appended (items ++ x ∷ []) start.filled (held start) (c.filled + 1) l) (sym places) (appended_more items start.filled (held start) c.filled (held c) x room g.puts));
+  loan = loan ∙ g.loan;
+}
 
 -- a call of the list, as the machine's move at its place
 pub stepped : {C : Type 0} (f : C → Move) (cs : List C) (k : ℕ) (c : C) (n m : ℕ) (rule rule' : Rule) (bs bs' : List Bool) (r : Report) → k < length cs → c ≡ get_or cs k c → m ≡ n → rule' ≡ rule
@@ -63,15 +74,15 @@ length_run n rule bs [] = refl
 length_run n rule bs (m ∷ ms) = ap suc (length_run n rule (step n rule bs m).1 ms)
 
 -- the reports that a run collected are those at their places, as many as the calls
-pub collected : (n : ℕ) (rule : Rule) (bs : List Bool) (ms : List Move) (k : ℕ) (left : List Bool) (filled : ℕ) (old : List Report) (filled' : ℕ) (new : List Report) → length ms ≡ k
-    → Ran (run n rule bs ms) left filled old filled' new → (take k (drop filled new), left) ≡ run n rule bs ms
-collected n rule bs ms k left filled old filled' new e r =
+pub collected : (n : ℕ) (rule : Rule) (bs : List Bool) (ms : List Move) (k : ℕ) (left : List Bool) (old new : Collector Report) → length ms ≡ k
+    → Ran (run n rule bs ms) left old new → (take k (drop old.filled (held new)), left) ≡ run n rule bs ms
+collected n rule bs ms k left old new e r =
     let l : k ≡ length (run n rule bs ms).0 = sym (length_run n rule bs ms ∙ e) in
-    let h : take k (drop filled new) ≡ (run n rule bs ms).0 = ap (λ (x : ℕ). take x (drop filled new)) l ∙ r.reports.holds in
+    let h : take k (drop old.filled (held new)) ≡ (run n rule bs ms).0 = ap (λ (x : ℕ). take x (drop old.filled (held new))) l ∙ r.reports.puts.holds in
     ap (λ (x : List Report). (x, left)) h ∙ ap (λ (x : List Bool). ((run n rule bs ms).0, x)) r.leaves
 
-pub ran_from : {n n' : ℕ} {rule rule' : Rule} {bs bs' : List Bool} (ms : List Move) {left : List Bool} {filled : ℕ} {old : List Report} {filled' : ℕ} {new : List Report} → n ≡ n' → rule ≡ rule' → bs ≡ bs'
-    → Ran (run n rule bs ms) left filled old filled' new → Ran (run n' rule' bs' ms) left filled old filled' new
-ran_from {n} {n'} {rule} {rule'} {bs} {bs'} ms {left} {filled} {old} {filled'} {new} a b c r =
-    subst (λ (x : List Bool). Ran (run n' rule' x ms) left filled old filled' new) c
-    (subst (λ (x : Rule). Ran (run n' x bs ms) left filled old filled' new) b (subst (λ (x : ℕ). Ran (run x rule bs ms) left filled old filled' new) a r))
+pub ran_from : {n n' : ℕ} {rule rule' : Rule} {bs bs' : List Bool} (ms : List Move) {left : List Bool} {old new : Collector Report} → n ≡ n' → rule ≡ rule' → bs ≡ bs'
+    → Ran (run n rule bs ms) left old new → Ran (run n' rule' bs' ms) left old new
+ran_from {n} {n'} {rule} {rule'} {bs} {bs'} ms {left} {old} {new} a b c r =
+    subst (λ (x : List Bool). Ran (run n' rule' x ms) left old new) c
+    (subst (λ (x : Rule). Ran (run n' x bs ms) left old new) b (subst (λ (x : ℕ). Ran (run x rule bs ms) left old new) a r))

@@ -1,4 +1,5 @@
 pub mod Machine
 pub mod Kinds
+pub mod Collectors
 pub mod Trials
 pub mod Successions

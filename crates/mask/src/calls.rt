@@ -1,15 +1,14 @@
 // The calls of a succession, and the row of operands that they name.
-ghost use Rattle.std.specs.Prelude.{◌≡◌, [], ◌∷◌, length, slice_index_or};
-ghost use Rattle.mask.specs.Kinds.{Kept};
-ghost use Rattle.mask.specs.Machine.{step};
-ghost use Rattle.mask.specs.Trials.{Named, move, past_row};
+ghost use Rattle.std.specs.Prelude.{◌≡◌, length, slice_index_or};
+ghost use Rattle.mask.specs.Kinds.{Answered, Kept};
+ghost use Rattle.mask.specs.Trials.{Named, move, past_call, past_row};
 
 use crate::kind::Mask;
 use index::{Idx, Refusal};
 use words::Operator;
 
 // One changing call. An operand is named by its number in a row of masks.
-#[derive(Clone, Copy)]
+#[derive(Clone, Copy, PartialEq, Eq, Debug)]
 pub enum Call<T, O> {
     Insert(T),
     Remove(T),
@@ -25,8 +24,10 @@ pub(crate) fn apply_call<M: Mask, T: Idx, O: Operator>(
     call: Call<T, O>,
 ) -> Result<(usize, usize), Refusal>
     requires { Named (length row.now) call }
-    ensures machine { (d : M) → (result, M.members mask.new) ≡ step (M.domain mask.old) (M.rule mask.old) (M.members mask.old) (move T.place O.table M.domain M.members M.rule (λ j. slice_index_or row.now j d) call) }
-    ensures kept { Kept M.domain M.rule M.spare mask.old mask.new }
+    ensures machine { (d : M) →
+        Answered M.kind mask.old (move T.place O.table M.kind (λ j. slice_index_or row.now j d) call)
+        result mask.new }
+    ensures kept { Kept M.kind mask.old mask.new }
 {
     match call {
         Call::Insert(i) => mask.insert(i),
@@ -39,10 +40,10 @@ pub(crate) fn apply_call<M: Mask, T: Idx, O: Operator>(
 
 // The operand of a call, if it is past a row of so many masks.
 fn past_call<T: Idx, O: Operator>(call: Call<T, O>, rows: usize) -> Option<usize>
-    ensures { result ≡ past_row rows (call ∷ []) }
+    ensures { result ≡ past_call rows call }
 {
     match call {
-        Call::Combine(_, j) => { if j < rows { None } else { Some(j) } }
+        Call::Combine(_, j) if j >= rows => Some(j),
         _ => None,
     }
 }
@@ -51,10 +52,5 @@ fn past_call<T: Idx, O: Operator>(call: Call<T, O>, rows: usize) -> Option<usize
 pub(crate) fn past_row<T: Idx, O: Operator>(calls: &[Call<T, O>], rows: usize) -> Option<usize>
     ensures { result ≡ past_row rows calls.now }
 {
-    for c in calls {
-        if let Some(j) = past_call(*c, rows) {
-            return Some(j);
-        }
-    }
-    None
+    calls.iter().find_map(|c| past_call(*c, rows))
 }

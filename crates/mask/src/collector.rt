@@ -1,7 +1,7 @@
 // Places that are lent out to be filled.
-ghost use Rattle.std.specs.Prelude.{◌≡◌, ◌+◌, ◌-◌, ◌<◌, ◌≤◌, length, slice_set};
+ghost use Rattle.std.specs.Prelude.{◌≡◌, ◌+◌, ◌<◌, ◌≤◌, length, slice_set};
 
-// The places below `filled` are taken, and the others are free.
+// The places below `filled` are taken, and the others are free. A count beside the places, since a mask uses no memory but what it is handed.
 #[derive(Drop)]
 pub struct Collector<'a, T> {
     places: &'a mut [T],
@@ -10,23 +10,28 @@ pub struct Collector<'a, T> {
 }
 
 impl<'a, T: Copy> Collector<'a, T> {
+    ghost use Rattle.mask.specs.Collectors.{held, free, SameLoan};
+
     // An empty collector over the places.
     pub fn new(places: &'a mut [T]) -> Collector<'a, T>
-        ensures { (result.places.now ≡ places.old) × (result.filled ≡ 0) }
+        ensures places { result.places.now ≡ places.old }
+        ensures loan { result.places.ghost_name ≡ places.entry.ghost_name }
+        ensures filled { result.filled ≡ 0 }
     {
         Collector { places, filled: 0 }
     }
 
     pub fn free(&self) -> usize
-        ensures { result ≡ length self.now.places.now - self.now.filled }
+        ensures { result ≡ free self.now }
     {
         self.places.len() - self.filled
     }
 
     pub(crate) fn push(&mut self, x: T)
-        requires { self.old.filled < length self.old.places.now }
-        ensures places { self.new.places.now ≡ slice_set self.old.places.now self.old.filled x }
+        requires { self.old.filled < length (held self.old) }
+        ensures places { held self.new ≡ slice_set (held self.old) self.old.filled x }
         ensures filled { self.new.filled ≡ self.old.filled + 1 }
+        ensures loan { SameLoan self.old self.new }
     {
         let at = self.filled;
         self.places[at] = x;

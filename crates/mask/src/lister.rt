@@ -1,7 +1,7 @@
 // Listing a mask's members.
 ghost use Rattle.std.specs.Prelude.{◌≡◌, ℕ, ◌-◌, ◌<◌, ◌≤◌, true, false, length, if◌then◌else◌, Ok, nat_eq};
 ghost use Rattle.mask.specs.Machine.{count};
-ghost use Rattle.mask.specs.Successions.{Listed, Put};
+ghost use Rattle.mask.specs.Collectors.{held, free, SameLoan, Listed, Put};
 ghost use Rattle.words.specs.Bits.{bit};
 
 use crate::collector::Collector;
@@ -11,7 +11,8 @@ use words::{WORD_BITS, Word, min_bit, num_words};
 
 // The word with one bit that was set taken out.
 fn without_bit(word: Word, k: usize) -> Word
-    requires { (k < 64) × (bit word k ≡ true) }
+    requires inside { k < 64 }
+    requires set { bit word k ≡ true }
     ensures less { result < word }
     ensures bits { (b : ℕ) → b < 64 → bit result b ≡ (if nat_eq b k then false else bit word b) }
 {
@@ -20,9 +21,11 @@ fn without_bit(word: Word, k: usize) -> Word
 
 // Puts one value for each member, rising, into the next places, where type and places suffice.
 fn put_members<M: Mask, T: Idx>(mask: &M, out: &mut Collector<'_, T>)
-    requires covered { M.domain mask.now ≤ T.limit }
-    requires room { count (M.members mask.now) ≤ length out.old.places.now - out.old.filled }
-    ensures { Put T.limit T.place (M.members mask.now) out.old.filled out.old.places.now out.new.filled out.new.places.now (Ok (count (M.members mask.now))) }
+    requires covered { M.kind.domain mask.now ≤ T.LIMIT }
+    requires room { count (M.kind.members mask.now) ≤ free out.old }
+    ensures puts { Put T.LIMIT T.place (M.kind.members mask.now) out.old.filled (held out.old)
+        out.new.filled (held out.new) (Ok (count (M.kind.members mask.now))) }
+    ensures loan { SameLoan out.old out.new }
 {
     for k in 0..num_words(mask.domain_size()) {
         let mut rest = mask.member_word(k);
@@ -37,7 +40,8 @@ fn put_members<M: Mask, T: Idx>(mask: &M, out: &mut Collector<'_, T>)
 
 // Lists the members, rising, into the next places of the collector, and answers how many they are.
 pub fn list<M: Mask, T: Idx>(mask: &M, out: &mut Collector<'_, T>) -> Result<usize, Refusal>
-    ensures { Listed T.limit T.place (M.domain mask.now) (M.members mask.now) out.old.filled out.old.places.now out.new.filled out.new.places.now result }
+    ensures { Listed T.LIMIT T.place (M.kind.domain mask.now) (M.kind.members mask.now)
+        out.old out.new result }
 {
     if !T::covers(mask.domain_size()) {
         return Err(Refusal::Limit);

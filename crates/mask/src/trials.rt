@@ -1,7 +1,7 @@
 // Trials of two lists of calls on every pattern of bits, sixty-four patterns to a word.
-ghost use Rattle.std.specs.Prelude.{◌≡◌, ℕ, ◌+◌, ◌*◌, ◌<◌, [], ◌∷◌, ◌++◌, None, Ok};
+ghost use Rattle.std.specs.Prelude.{◌≡◌, ℕ, ◌+◌, ◌*◌, ◌<◌, ◌++◌, None, Ok};
 ghost use Rattle.mask.specs.Kinds.{Tells};
-ghost use Rattle.mask.specs.Trials.{Named, untried, bit_after, pattern_trial, Agree, Tried};
+ghost use Rattle.mask.specs.Trials.{Named, untried_call, untried, bit_after, pattern_trial, Agree, Tried};
 ghost use Rattle.words.specs.Bits.{bit};
 
 use crate::calls::Call;
@@ -34,41 +34,20 @@ pub enum NotTried {
 
 // Why a call cannot be tried, if it cannot.
 fn untried_call<T: Idx, O: Operator>(call: Call<T, O>) -> Option<NotTried>
-    ensures { result ≡ untried (call ∷ []) }
+    ensures { result ≡ untried_call call }
 {
     match call {
         Call::Insert(_) | Call::Remove(_) => Some(NotTried::Single),
-        Call::Clear | Call::InsertAll => None,
-        Call::Combine(_, j) => {
-            if j < OPERANDS {
-                None
-            } else {
-                Some(NotTried::Operand(j))
-            }
-        }
+        Call::Combine(_, j) if j >= OPERANDS => Some(NotTried::Operand(j)),
+        _ => None,
     }
 }
 
-// Why the first call of a list that cannot be tried cannot, if there is one.
-fn untried_list<T: Idx, O: Operator>(calls: &[Call<T, O>]) -> Option<NotTried>
-    ensures { result ≡ untried calls.now }
-{
-    for c in calls {
-        if let Some(why) = untried_call(*c) {
-            return Some(why);
-        }
-    }
-    None
-}
-
-// The same of two lists, read one after the other.
-fn untried_lists<T: Idx, O: Operator>(xs: &[Call<T, O>], ys: &[Call<T, O>]) -> Option<NotTried>
+// Why the first call of two lists, one after the other, that cannot be tried cannot, if there is one.
+fn untried<T: Idx, O: Operator>(xs: &[Call<T, O>], ys: &[Call<T, O>]) -> Option<NotTried>
     ensures { result ≡ untried (xs.now ++ ys.now) }
 {
-    match untried_list(xs) {
-        Some(why) => Some(why),
-        None => untried_list(ys),
-    }
+    xs.iter().chain(ys).find_map(|c| untried_call(*c))
 }
 
 // Bit b of the sixty-four patterns of a round, as a word.
@@ -88,7 +67,9 @@ fn pattern_word(b: usize, round: usize) -> Word
 // One call on the sixty-four patterns of a round.
 fn trial_step<T: Idx, O: Operator>(call: Call<T, O>, word: Word, round: usize) -> Word
     requires { Named 16 call }
-    ensures { (k : ℕ) → k < 64 → bit result k ≡ bit_after T.place O.table (λ j. bit (64 * round + k) (j + 1)) (bit word k) call }
+    ensures { (k : ℕ) → k < 64
+        → bit result k
+        ≡ bit_after T.place O.table (λ j. bit (64 * round + k) (j + 1)) (bit word k) call }
 {
     match call {
         Call::Insert(_) | Call::Remove(_) => word,
@@ -101,7 +82,8 @@ fn trial_step<T: Idx, O: Operator>(call: Call<T, O>, word: Word, round: usize) -
 // What a list leaves of the sixty-four patterns of a round.
 fn trial_word<T: Idx, O: Operator>(calls: &[Call<T, O>], round: usize) -> Word
     requires { untried calls.now ≡ None }
-    ensures { (k : ℕ) → k < 64 → bit result k ≡ pattern_trial T.place O.table (64 * round + k) calls.now }
+    ensures { (k : ℕ) → k < 64
+        → bit result k ≡ pattern_trial T.place O.table (64 * round + k) calls.now }
 {
     let mut word = pattern_word(0, round);
     for c in calls {
@@ -112,7 +94,8 @@ fn trial_word<T: Idx, O: Operator>(calls: &[Call<T, O>], round: usize) -> Word
 
 // Whether two lists leave the same of every pattern.
 fn patterns_agree<T: Idx, O: Operator>(xs: &[Call<T, O>], ys: &[Call<T, O>]) -> bool
-    requires { (untried xs.now ≡ None) × (untried ys.now ≡ None) }
+    requires first { untried xs.now ≡ None }
+    requires second { untried ys.now ≡ None }
     ensures { Tells result (Agree T.place O.table xs.now ys.now) }
 {
     for round in 0..ROUNDS {
@@ -126,7 +109,7 @@ fn patterns_agree<T: Idx, O: Operator>(xs: &[Call<T, O>], ys: &[Call<T, O>]) -> 
 // The same answer says whether the lists leave masks of equal pictures.
 fn pictures_agree<M: Mask, T: Idx, O: Operator>(xs: &[Call<T, O>], ys: &[Call<T, O>]) -> bool
     requires { untried (xs.now ++ ys.now) ≡ None }
-    ensures { Tried T.place O.table M.domain M.members M.rule M.picture xs.now ys.now (Ok result) }
+    ensures { Tried T.place O.table M.kind xs.now ys.now (Ok result) }
 {
     patterns_agree(xs, ys)
 }
@@ -137,10 +120,10 @@ pub fn trials_agree<M: Mask, T: Idx, O: Operator>(
     xs: &[Call<T, O>],
     ys: &[Call<T, O>],
 ) -> Result<bool, NotTried>
-    ensures { Tried T.place O.table M.domain M.members M.rule M.picture xs.now ys.now result }
+    ensures { Tried T.place O.table M.kind xs.now ys.now result }
 {
-    if let Some(why) = untried_lists(xs, ys) {
-        return Err(why);
+    match untried(xs, ys) {
+        Some(why) => Err(why),
+        None => Ok(pictures_agree::<M, T, O>(xs, ys)),
     }
-    Ok(pictures_agree::<M, T, O>(xs, ys))
 }

@@ -1,8 +1,11 @@
 -- The meaning of a mask that is empty or full.
---   none_or_all                                            the holding rule: no index is a member, or every one is
---   domain_of, members_of, rule_of, picture_of, spare_of   of a mask
---   enough, only_rule, nothing_past                        of what is handed over for a domain: nothing, and it suffices
-use Rattle.std.specs.Prelude.{ℕ, Bool, true, ◌&&◌, ◌||◌, List, [], ◌∷◌, length, replicate, ◌==◌, nat_lt}
+--   none_or_all     the holding rule: no index is a member, or every one is
+--   uniform_kind    what such a mask means: its domain; the flag at every index of it; the rule; its picture
+--                   is the domain and the flag; no memory lies past it
+--   nothing_given   what is handed over at creation comes to: it suffices for every domain, and nothing is
+--                   left over
+use Rattle.std.specs.Prelude.{true, ◌&&◌, ◌||◌, [], ◌∷◌, length, replicate, ◌==◌, nat_lt}
+use Rattle.mask.specs.Kinds.{Kind, Backing}
 use Rattle.mask.specs.Machine.{Rule, count}
 use Rattle.words.specs.Bits.{one}
 use Rattle.own_kind.specs.declared.all_or_nothing.AllOrNothing.{AllOrNothing}
@@ -10,27 +13,21 @@ use Rattle.own_kind.specs.declared.all_or_nothing.AllOrNothing.{AllOrNothing}
 abbrev pub none_or_all : Rule
 none_or_all bs = count bs == 0 || count bs == length bs
 
-abbrev pub domain_of : AllOrNothing → ℕ
-domain_of s = s.domain_size
+-- over no index the flag is not in the picture, since the empty and the full set are one there
+abbrev pub uniform_kind : Kind AllOrNothing
+uniform_kind =
+    record {
+      domain = λ s. s.domain_size;
+      members = λ s. replicate s.domain_size s.full;
+      rule = λ s. none_or_all;
+      picture = λ s. s.domain_size ∷ one (s.full && nat_lt 0 s.domain_size) ∷ [];
+      spare = λ s. [];
+    }
 
-abbrev pub members_of : AllOrNothing → List Bool
-members_of s = replicate s.domain_size s.full
-
-abbrev pub rule_of : AllOrNothing → Rule
-rule_of s = none_or_all
-
--- over no index the flag is not shown, since the empty and the full set are one there
-abbrev pub picture_of : AllOrNothing → List ℕ
-picture_of s = s.domain_size ∷ one (s.full && nat_lt 0 s.domain_size) ∷ []
-
-abbrev pub spare_of : AllOrNothing → List ℕ
-spare_of s = []
-
-abbrev pub enough : {A : Type 0} → ℕ → A → Bool
-enough n memory = true
-
-abbrev pub only_rule : {A : Type 0} → ℕ → A → Rule
-only_rule n memory = none_or_all
-
-abbrev pub nothing_past : {A : Type 0} → ℕ → A → List ℕ
-nothing_past n memory = []
+abbrev pub nothing_given : {A : Type 0} → Backing A
+nothing_given =
+    record {
+      suffices = λ n memory. true;
+      rule = λ n memory. none_or_all;
+      spare = λ n memory. [];
+    }

@@ -1,80 +1,76 @@
 // The kind as a mask.
-ghost use Rattle.own_kind.specs.Meaning.{domain_of, members_of, rule_of, picture_of, spare_of, enough, only_rule, nothing_past};
-ghost use Rattle.std.proofs.lemmas.List.{length-replicate};
-ghost use Rattle.own_kind.specs.Laws.{held, shown};
-ghost use Rattle.std.specs.Prelude.{refl};
-ghost use Rattle.std.proofs.Common.{rules};
+ghost use Rattle.own_kind.specs.Laws.{lawful};
+ghost use Rattle.own_kind.specs.Meaning.{uniform_kind, nothing_given};
 
 use crate::all_or_nothing::AllOrNothing;
 use index::{Idx, Refusal};
 use mask::{Mask, Refused};
-use words::{Operator, Word};
+use words::{Operator, Word, word_below};
 
 impl Mask for AllOrNothing {
     type Memory = ();
 
-    ghost domain = { domain_of };
+    ghost kind = { uniform_kind };
 
-    ghost members = { members_of };
+    ghost backing = { nothing_given };
 
-    ghost rule = { rule_of };
-
-    ghost picture = { picture_of };
-
-    ghost spare = { spare_of };
-
-    ghost suffices = { enough };
-
-    ghost given = { only_rule };
-
-    ghost past = { nothing_past };
-
-    ghost long = { λ s. length-replicate s.domain_size s.full };
-
-    ghost held = { λ s. held s.domain_size s.full };
-
-    ghost empty = { λ s. held s.domain_size _ };
-
-    ghost full = { λ s. held s.domain_size _ };
-
-    ghost seen = { Prim.search rules };
-
-    ghost shown = { λ a b p e. shown a.domain_size b.domain_size a.full b.full p e };
-
-    ghost spans = { λ s b. (record { domain_size = s.domain_size; full = b }, refl, refl, refl) };
+    ghost laws = { lawful };
 
     fn new_empty(domain_size: usize, _memory: ()) -> Result<AllOrNothing, Refused<()>> {
-        Ok(AllOrNothing::uniform(domain_size, false))
+        Ok(AllOrNothing {
+            domain_size,
+            full: false,
+        })
     }
 
     fn new_filled(domain_size: usize, _memory: ()) -> Result<AllOrNothing, Refused<()>> {
-        Ok(AllOrNothing::uniform(domain_size, true))
+        Ok(AllOrNothing {
+            domain_size,
+            full: true,
+        })
     }
 
     fn into_memory(self) {}
 
     fn domain_size(&self) -> usize {
-        self.domain()
+        self.domain_size
     }
 
     fn contains<T: Idx>(&self, elem: T) -> Result<bool, Refusal> {
-        self.has(elem.index())
+        let index = elem.index();
+        if index >= self.domain_size {
+            return Err(Refusal::Index(index));
+        }
+        Ok(self.full)
     }
 
+    #[tactic(auto, using(crate::proofs::Uniform::uniform_sets))]
     fn count(&self) -> usize {
-        self.size()
+        if self.full { self.domain_size } else { 0 }
     }
 
+    // In a full set the number itself is the lowest member from it on.
+    #[tactic(auto, using(crate::proofs::Uniform::uniform_sets))]
     fn next_member(&self, from: usize) -> Option<usize> {
-        self.seek(from)
+        if self.full && from < self.domain_size {
+            Some(from)
+        } else {
+            None
+        }
     }
 
+    #[tactic(auto, using(crate::proofs::Uniform::uniform_sets))]
     fn member_word(&self, k: usize) -> Word {
-        self.word(k)
+        if self.full {
+            word_below(self.domain_size, k)
+        } else {
+            0
+        }
     }
 
+    // Over no index the flags are not looked at.
     fn same_picture(&self, other: &Self) -> bool {
-        self.looks_like(other)
+        self.domain_size == other.domain_size && (self.domain_size == 0 || self.full == other.full)
     }
 
     fn insert<T: Idx>(&mut self, elem: T) -> Result<(usize, usize), Refusal> {

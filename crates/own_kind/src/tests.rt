@@ -7,7 +7,7 @@ use words::Or;
 
 // Nothing is handed over, so no mask is refused.
 fn made(mask: Result<AllOrNothing, Refused<()>>) -> Result<AllOrNothing, Fail> {
-    Ok(mask.ok().ok_or("refused")?)
+    mask.map_err(|_| Fail::new("refused"))
 }
 
 #[test]
@@ -48,7 +48,7 @@ fn a_succession_from_full(rt: HostRuntime) -> Result<(), Fail> {
     let mut reports = Collector::new(&mut answers);
     let mut out = Collector::new(&mut places);
     let left = run_from_new(true, 4, (), &row, &calls, &mut reports, &mut out);
-    assert_eq!(rt; left.ok().ok_or("not run")?.listed, Ok(4));
+    assert_eq!(rt; left.map_err(|_| Fail::new("not run"))?.listed, Ok(4));
     assert_eq!(rt; answers, [Ok((0, 4)), Ok((4, 0)), Ok((0, 0))]);
     assert_eq!(rt; places, [0, 1, 2, 3]);
     Ok(())

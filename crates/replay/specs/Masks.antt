@@ -1,17 +1,20 @@
 -- A mask of any kind by its meaning, and what it is asked.
 --   domain_of, members_of, rule_of, spare_of, picture_of   of a mask of any kind
+--   any_kind                                   what a mask of any kind means
 --   flagged                                    a flag or a refusal as a call's answer
 --   Asked                                      what a question answers to a mask of that domain and those members
 --   Compares                                   what superset answers
 --   spare_words                                the words that are handed over behind a mask's own
 --   Pictured                                   the picture of a dense mask, by its domain and the memory that it gave back
+--   Pictures                                   the picture of a mask, whose spare words lie behind those that it shows
 use Rattle.std.specs.Prelude.{◌≡◌, ℕ, Bool, List, [], ◌∷◌, take, drop, Ok, Err, vec_items, Result, ◌==◌}
-use Rattle.dense.specs.Sets as dense
+use Rattle.dense.specs.Sets.{dense_kind, Compared}
 use Rattle.index.specs.declared.refusal.Refusal.{Refusal}
+use Rattle.mask.specs.Kinds.{Kind}
 use Rattle.mask.specs.Machine.{Rule, contained, count, next_member}
 use Rattle.words.specs.Bits.{words_for}
 use Rattle.replay.specs.declared.answers.Answer.{Answer}
-use Rattle.replay.specs.declared.answers.Answer.TheVariants.{Made, Report, Flag, Count, Found, Numbers, Spoilt}
+use Rattle.replay.specs.declared.answers.Answer.TheVariants.{Made, Report, Flag, Count, Found, Numbers, Picture, Spoilt}
 use Rattle.replay.specs.declared.calls.Question.{Question}
 use Rattle.replay.specs.declared.calls.Question.TheVariants.{Contains, Empty, Count as Counting, Next, List as Listing}
 use Rattle.replay.specs.declared.fault.Fault.{Fault}
@@ -20,19 +23,22 @@ use Rattle.replay.specs.declared.kinds.AnyMask.{AnyMask}
 use Rattle.replay.specs.declared.kinds.AnyMask.TheVariants.{Dense}
 
 abbrev pub domain_of : AnyMask → ℕ
-domain_of (Dense s) = dense.domain_of s
+domain_of (Dense s) = dense_kind.domain s
 
 abbrev pub members_of : AnyMask → List Bool
-members_of (Dense s) = dense.members_of s
+members_of (Dense s) = dense_kind.members s
 
 abbrev pub rule_of : AnyMask → Rule
-rule_of (Dense s) = dense.rule_of s
+rule_of (Dense s) = dense_kind.rule s
 
 abbrev pub spare_of : AnyMask → List ℕ
-spare_of (Dense s) = dense.spare_of s
+spare_of (Dense s) = dense_kind.spare s
 
 abbrev pub picture_of : AnyMask → List ℕ
-picture_of (Dense s) = dense.picture_of s
+picture_of (Dense s) = dense_kind.picture s
+
+abbrev pub any_kind : Kind AnyMask
+any_kind = record { domain = domain_of; members = members_of; rule = rule_of; picture = picture_of; spare = spare_of }
 
 abbrev pub flagged : Result Bool Refusal → Result Answer Fault
 flagged (Ok b) = Ok (Flag b)
@@ -47,7 +53,7 @@ Asked n bs (Next i) r = r ≡ Ok (Found (next_member bs i))
 Asked n bs Listing r = Unit {0}
 
 abbrev pub Compares : AnyMask → AnyMask → Result Bool Refusal → Type 0
-Compares (Dense s) (Dense t) r = dense.Compared (dense.domain_of s) (dense.members_of s) (dense.domain_of t) (dense.members_of t) r
+Compares (Dense s) (Dense t) r = Compared s t r
 
 abbrev pub spare_words : List ℕ
 spare_words = 81985529216486895 ∷ 18364758544493064720 ∷ []
@@ -58,5 +64,9 @@ Pictured n ws (Report e l) = ⊥
 Pictured n ws (Flag b) = ⊥
 Pictured n ws (Count c) = ⊥
 Pictured n ws (Found o) = ⊥
-Pictured n ws (Numbers v) = vec_items v ≡ n ∷ take (words_for n) ws
+Pictured n ws (Numbers v) = ⊥
+Pictured n ws (Picture m v) = (m ≡ n) × (vec_items v ≡ take (words_for n) ws) × (drop (words_for n) ws ≡ spare_words)
 Pictured n ws Spoilt = drop (words_for n) ws ≡ spare_words → ⊥
+
+abbrev pub Pictures : AnyMask → Answer → Type 0
+Pictures m a = (ws : List ℕ) × (drop (words_for (domain_of m)) ws ≡ spare_of m) × Pictured (domain_of m) ws a

@@ -1,7 +1,8 @@
 // What a call answers, and how that is printed.
 use std::fmt;
+use words::Word;
 
-#[derive(Drop)]
+#[derive(Drop, PartialEq, Eq, Debug)]
 pub enum Answer {
     Made,
     // How many indices entered the mask, and how many left it.
@@ -11,6 +12,8 @@ pub enum Answer {
     // The index that was found, if there is one.
     Found(Option<usize>),
     Numbers(Vec<usize>),
+    // A mask's domain, and the words that it takes.
+    Picture(usize, Vec<Word>),
     // The words behind the mask's own are not what they were.
     Spoilt,
 }
@@ -24,16 +27,22 @@ impl fmt::Display for Answer {
             Answer::Count(count) => write!(f, "{count}"),
             Answer::Found(Some(index)) => write!(f, "{index}"),
             Answer::Found(None) => f.write_str("none"),
-            Answer::Numbers(numbers) => show_numbers(numbers, f),
+            Answer::Numbers(numbers) => match numbers.split_first() {
+                Some((first, rest)) => show_numbers(first, rest, f),
+                None => f.write_str("none"),
+            },
+            Answer::Picture(domain, words) => show_numbers(domain, words, f),
             Answer::Spoilt => f.write_str("spoilt"),
         }
     }
 }
 
-fn show_numbers<W: fmt::Write>(numbers: &[usize], f: &mut fmt::Formatter<W>) -> fmt::Result {
-    let Some((first, rest)) = numbers.split_first() else {
-        return f.write_str("none");
-    };
+// A number, then the others, each after a space.
+fn show_numbers<N: fmt::Display, W: fmt::Write>(
+    first: &usize,
+    rest: &[N],
+    f: &mut fmt::Formatter<W>,
+) -> fmt::Result {
     write!(f, "{first}")?;
     for number in rest {
         write!(f, " {number}")?;

@@ -1,7 +1,6 @@
 // Reading a line: the call that it makes.
 ghost use Rattle.std.specs.Prelude.{◌≡◌, Some, None};
-ghost use Rattle.std.specs.Option.{option_map};
-ghost use Rattle.replay.specs.Lines.{Number, digit, digits, kind_name, Spelt, Reads, Says};
+ghost use Rattle.replay.specs.Lines.{Number, digit, digits, kind_name, Spelt, Reads, Says, FirstWords, Asks};
 
 use crate::fault::Fault;
 use words::Table;
@@ -9,13 +8,21 @@ use words::Table;
 // No mask is made for a domain past this one, whose words take half a gigabyte.
 const LARGEST_DOMAIN: usize = 1 << 32;
 
-#[derive(Clone, Copy)]
+#[derive(Clone, Copy, PartialEq, Eq, Debug)]
 pub enum Kind {
     Dense,
 }
 
-// A change of one mask.
-#[derive(Clone, Copy)]
+// A mask to be made, with every index of its domain or none.
+#[derive(Clone, Copy, PartialEq, Eq, Debug)]
+pub struct NewMask {
+    pub kind: Kind,
+    pub domain: usize,
+    pub full: bool,
+}
+
+// A change of one mask. It is no mask::Call, which may name an operand: these four never need one.
+#[derive(Clone, Copy, PartialEq, Eq, Debug)]
 pub enum Change {
     Insert(usize),
     Remove(usize),
@@ -24,7 +31,7 @@ pub enum Change {
 }
 
 // A change of one mask by another.
-#[derive(Clone, Copy)]
+#[derive(Clone, Copy, PartialEq, Eq, Debug)]
 pub enum Combination {
     Union,
     Intersect,
@@ -35,7 +42,7 @@ pub enum Combination {
 }
 
 // What a mask of any kind is asked.
-#[derive(Clone, Copy)]
+#[derive(Clone, Copy, PartialEq, Eq, Debug)]
 pub enum Question {
     Contains(usize),
     Empty,
@@ -45,10 +52,9 @@ pub enum Question {
 }
 
 // A call on a mask. An operand is named by its number.
-#[derive(Clone, Copy)]
+#[derive(Clone, Copy, PartialEq, Eq, Debug)]
 pub enum Call {
-    // The domain, and whether every index of it is a member.
-    Make(Kind, usize, bool),
+    Make(NewMask),
     Change(Change),
     Combine(Combination, usize),
     Ask(Question),
@@ -58,51 +64,62 @@ pub enum Call {
     Picture,
 }
 
-#[derive(Clone, Copy)]
-pub enum Line {
-    // A blank line or a comment.
-    Nothing,
-    // A call on the mask of that number.
-    OnMask(usize, Call),
+// A call on the mask of that number.
+#[derive(Clone, Copy, PartialEq, Eq, Debug)]
+pub struct Request {
+    pub mask: usize,
+    pub call: Call,
 }
 
-pub fn read_line(text: &str) -> Result<Line, Fault> {
+// What a line asks for: nothing if it is blank or a comment.
+pub fn read_line(text: &str) -> Result<Option<Request>, Fault>
+    ensures { Asks text.now result }
+{
     let text = text.trim();
     if text.is_empty() || text.starts_with('#') {
-        return Ok(Line::Nothing);
+        return Ok(None);
     }
-    let mut words = text.split_whitespace();
-    let read = read_words(
-        words.next(),
-        words.next(),
-        words.next(),
-        words.next(),
-        words.next(),
-    );
-    match read {
-        Some((number, call)) => Ok(Line::OnMask(number, call)),
-        None => Err(Fault::Text),
+    let request = read_words(Words::of(text)).ok_or(Fault::Text)?;
+    Ok(Some(request))
+}
+
+// The first words of a line: the call's name, the mask's number, and at most two words after it. A fifth is one too many.
+#[derive(Clone, Copy)]
+struct Words<'a> {
+    name: Option<&'a str>,
+    mask: Option<&'a str>,
+    number: Option<&'a str>,
+    word: Option<&'a str>,
+    more: Option<&'a str>,
+}
+
+impl<'a> Words<'a> {
+    fn of(text: &'a str) -> Words<'a>
+        ensures { FirstWords text.now result }
+    {
+        let mut words = text.split_whitespace();
+        Words {
+            name: words.next(),
+            mask: words.next(),
+            number: words.next(),
+            word: words.next(),
+            more: words.next(),
+        }
     }
 }
 
-// The call's name, the mask's number, and at most two words after it. A fifth word is one too many.
-fn read_words(
-    name: Option<&str>,
-    mask: Option<&str>,
-    number: Option<&str>,
-    word: Option<&str>,
-    more: Option<&str>,
-) -> Option<(usize, Call)>
-    ensures { Reads (Says (option_map (λ x. x.now) name.entry) (option_map (λ x. x.now) mask.entry) (option_map (λ x. x.now) number.entry) (option_map (λ x. x.now) word.entry) (option_map (λ x. x.now) more.entry)) result }
+fn read_words(words: Words<'_>) -> Option<Request>
+    ensures { Reads (Says words.entry) result }
 {
-    let mask = read_number(mask?)?;
-    let call = match (number, word, more) {
-        (None, None, None) => read_alone(name?)?,
-        (Some(number), None, None) => read_with_number(name?, read_number(number)?)?,
-        (Some(number), Some(word), None) => read_with_word(name?, read_number(number)?, word)?,
+    let mask = read_number(words.mask?)?;
+    let name = words.name?;
+    let call = match (words.number, words.word, words.more) {
+        (None, None, None) => read_alone(name)?,
+        (Some(number), None, None) => read_with_number(name, read_number(number)?)?,
+        (Some(number), Some(word), None) => read_with_word(name, read_number(number)?, word)?,
         _ => return None,
     };
-    Some((mask, call))
+    Some(Request { mask, call })
 }
 
 // A call that names nothing but its mask.
@@ -158,11 +175,12 @@ fn read_make(kind: Kind, domain: usize, filling: &str) -> Option<Call>
     if domain > LARGEST_DOMAIN {
         return None;
     }
-    match filling {
-        "empty" => Some(Call::Make(kind, domain, false)),
-        "filled" => Some(Call::Make(kind, domain, true)),
-        _ => None,
-    }
+    let full = match filling {
+        "empty" => false,
+        "filled" => true,
+        _ => return None,
+    };
+    Some(Call::Make(NewMask { kind, domain, full }))
 }
 
 // A table's four bits, in the order of its fields.

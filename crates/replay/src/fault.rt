@@ -4,9 +4,10 @@ ghost use Rattle.replay.specs.declared.fault.Fault.TheVariants.{Refused, Memory}
 
 use index::{Refusal, Values};
 use std::alloc::{AllocError, AllocFailed};
+use std::error::Error;
 use std::fmt;
 
-#[derive(Clone, Copy)]
+#[derive(Clone, Copy, PartialEq, Eq, Debug)]
 pub enum Fault {
     // The line cannot be read.
     Text,
@@ -16,6 +17,8 @@ pub enum Fault {
     Memory,
 }
 
+impl Error for Fault {}
+
 impl From<Refusal> for Fault {
     ghost from_gives = { λ e f. f ≡ Refused e };
 
@@ -24,6 +27,7 @@ impl From<Refusal> for Fault {
     }
 }
 
+// Of memory there are two: `?` meets the one on a Vec and the other on a map, and no impl takes both.
 impl From<AllocError> for Fault {
     ghost from_gives = { λ _ f. f ≡ Memory };
 
@@ -50,7 +54,7 @@ impl fmt::Display for Fault {
     }
 }
 
-// The refusal's number, then its values.
+// The refusal's number, then its values: what it prints of itself is a sentence.
 fn show_refusal<W: fmt::Write>(refusal: Refusal, f: &mut fmt::Formatter<W>) -> fmt::Result {
     let (number, values) = refusal.returned();
     match values {

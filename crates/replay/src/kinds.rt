@@ -1,14 +1,13 @@
 // Masks of every kind as one type.
-ghost use Rattle.std.specs.Prelude.{◌≡◌, ◌≤◌, Bool, false, ◌++◌, length, replicate, IfOk, vec_len, MatchResult, slice_index_or};
-ghost use Rattle.mask.specs.Kinds.{Answered, Kept, Tells};
-ghost use Rattle.mask.specs.Machine.{combine};
+ghost use Rattle.std.specs.Prelude.{◌≡◌, ◌≤◌, Bool, false, ◌++◌, length, replicate, IfErr, IfOk, vec_len, slice_index_or};
+ghost use Rattle.mask.specs.Kinds.{Changed, combining, Tells};
 ghost use Rattle.replay.specs.Calls.{moved, table_of};
-ghost use Rattle.replay.specs.Masks.{domain_of, members_of, rule_of, spare_of, picture_of, spare_words, Asked, Compares, Pictured};
+ghost use Rattle.replay.specs.Masks.{any_kind, spare_words, Asked, Compares, Pictured, Pictures};
 ghost use Rattle.replay.specs.declared.fault.Fault.TheVariants.{Memory};
 ghost use Rattle.words.specs.Bits.{words_for};
 
 use crate::answers::Answer;
-use crate::calls::{Change, Combination, Kind, Question};
+use crate::calls::{Change, Combination, Kind, NewMask, Question};
 use crate::fault::Fault;
 use crate::work::{ask_mask, change_mask, combine_masks, copy_mask, make_mask};
 use dense::DenseBitSet;
@@ -20,34 +19,30 @@ use words::{Word, num_words};
 // The words that are handed over behind a mask's own.
 const SPARE: [Word; 2] = [0x0123_4567_89ab_cdef, 0xfedc_ba98_7654_3210];
 
+#[derive(Drop)]
 pub enum AnyMask {
     Dense(DenseBitSet),
 }
 
-impl Drop for AnyMask {
-    fn drop(self) {
-        match self {
-            AnyMask::Dense(mask) => drop(mask.into_memory()),
-        }
-    }
-}
-
+// A mask keeps no heap, so each call that needs one takes it.
 impl AnyMask {
-    // A mask with every index of its domain or none.
-    pub fn new(heap: Global, kind: Kind, domain: usize, full: bool) -> Result<AnyMask, Fault>
-        ensures { MatchResult result (λ m. (domain_of m ≡ domain) × (members_of m ≡ replicate domain full)) (λ e. e ≡ Memory) }
+    pub fn new(heap: Global, wanted: NewMask) -> Result<AnyMask, Fault>
+        ensures domain { IfOk result (λ m. any_kind.domain m ≡ wanted.domain) }
+        ensures members { IfOk result (λ m. any_kind.members m ≡ replicate wanted.domain wanted.full) }
+        ensures refused { IfErr result (λ e. e ≡ Memory) }
     {
-        match kind {
+        match wanted.kind {
             Kind::Dense => {
-                let memory = words_with_spare(heap, domain)?;
-                Ok(AnyMask::Dense(make_mask(domain, memory, full)?))
+                let memory = words_with_spare(heap, wanted.domain)?;
+                Ok(AnyMask::Dense(make_mask(wanted.domain, memory, wanted.full)?))
             }
         }
     }
 
-    // Another mask of the same kind, domain and members.
+    // Another mask of the same kind, domain and members. It is no Clone, which would be handed no heap.
     pub fn copy(&self, heap: Global) -> Result<AnyMask, Fault>
-        ensures { IfOk result (λ m. (domain_of m ≡ domain_of self.now) × (members_of m ≡ members_of self.now)) }
+        ensures domain { IfOk result (λ m. any_kind.domain m ≡ any_kind.domain self.now) }
+        ensures members { IfOk result (λ m. any_kind.members m ≡ any_kind.members self.now) }
     {
         match self {
             AnyMask::Dense(mask) => {
@@ -58,8 +53,7 @@ impl AnyMask {
     }
 
     pub fn change(&mut self, change: Change) -> Result<(usize, usize), Refusal>
-        ensures machine { Answered domain_of rule_of members_of self.old (moved change) result self.new }
-        ensures kept { Kept domain_of rule_of spare_of self.old self.new }
+        ensures { Changed any_kind self.old (moved change) result self.new }
     {
         match self {
             AnyMask::Dense(mask) => change_mask(mask, change),
@@ -71,8 +65,8 @@ impl AnyMask {
         combination: Combination,
         other: &AnyMask,
     ) -> Result<(usize, usize), Refusal>
-        ensures machine { Answered domain_of rule_of members_of self.old (combine (table_of combination) (domain_of other.now) (members_of other.now)) result self.new }
-        ensures kept { Kept domain_of rule_of spare_of self.old self.new }
+        ensures { Changed any_kind self.old (combining any_kind (table_of combination) other.now)
+            result self.new }
     {
         match (self, other) {
             (AnyMask::Dense(mask), AnyMask::Dense(other)) => combine_masks(
@@ -84,7 +78,7 @@ impl AnyMask {
     }
 
     pub fn ask(&self, heap: Global, question: Question) -> Result<Answer, Fault>
-        ensures { Asked (domain_of self.now) (members_of self.now) question result }
+        ensures { Asked (any_kind.domain self.now) (any_kind.members self.now) question result }
     {
         match self {
             AnyMask::Dense(mask) => ask_mask(heap, mask, question),
@@ -92,7 +86,7 @@ impl AnyMask {
     }
 
     pub fn contains_loose(&self, index: usize) -> bool
-        ensures { result ≡ slice_index_or (members_of self.now) index false }
+        ensures { result ≡ slice_index_or (any_kind.members self.now) index false }
     {
         match self {
             AnyMask::Dense(mask) => mask.contains_loose(index),
@@ -108,19 +102,21 @@ impl AnyMask {
     }
 
     pub fn same_picture(&self, other: &AnyMask) -> bool
-        ensures { Tells result (picture_of self.now ≡ picture_of other.now) }
+        ensures { Tells result (any_kind.picture self.now ≡ any_kind.picture other.now) }
     {
         match (self, other) {
             (AnyMask::Dense(mask), AnyMask::Dense(other)) => mask.same_picture(other),
         }
     }
 
-    // The numbers of the mask's picture, read off the memory that it gives back.
-    pub fn into_picture(self, heap: Global) -> Result<Answer, Fault> {
+    // The mask's picture, read off the memory that it gives back.
+    pub fn into_picture(self) -> Answer
+        ensures { Pictures self result }
+    {
         match self {
             AnyMask::Dense(mask) => {
                 let domain = mask.domain_size();
-                dense_picture(heap, domain, &mask.into_memory())
+                dense_picture(domain, mask.into_memory())
             }
         }
     }
@@ -128,7 +124,8 @@ impl AnyMask {
 
 // Words for a domain, and the spare ones behind them.
 fn words_with_spare(heap: Global, domain: usize) -> Result<Vec<Word>, AllocError>
-    ensures { IfOk result (λ v. (v.items ≡ replicate (words_for domain) 0 ++ spare_words) × (words_for domain ≤ vec_len v)) }
+    ensures words { IfOk result (λ v. v.items ≡ replicate (words_for domain) 0 ++ spare_words) }
+    ensures enough { IfOk result (λ v. words_for domain ≤ vec_len v) }
 {
     let mut words = vec![in heap; 0; num_words(domain)]?;
     words.extend_from_slice(&SPARE)?;
@@ -136,17 +133,14 @@ fn words_with_spare(heap: Global, domain: usize) -> Result<Vec<Word>, AllocError
 }
 
 // The domain and the words that it takes.
-fn dense_picture(heap: Global, domain: usize, memory: &[Word]) -> Result<Answer, Fault>
-    requires { words_for domain ≤ length memory.now }
-    ensures { MatchResult result (Pictured domain memory.now) (λ e. e ≡ Memory) }
+fn dense_picture(domain: usize, mut memory: Vec<Word>) -> Answer
+    requires { words_for domain ≤ vec_len memory }
+    ensures { Pictured domain memory.items result }
 {
-    let (words, spare) = memory.split_at(num_words(domain));
-    if spare != SPARE.as_slice() {
-        return Ok(Answer::Spoilt);
+    let taken = num_words(domain);
+    if memory[taken..] != SPARE[..] {
+        return Answer::Spoilt;
     }
-    let mut numbers = vec![in heap; domain]?;
-    for word in words {
-        numbers.push(*word as usize)?;
-    }
-    Ok(Answer::Numbers(numbers))
+    memory.truncate(taken);
+    Answer::Picture(domain, memory)
 }

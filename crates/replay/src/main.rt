@@ -8,7 +8,9 @@ mod kinds;
 mod store;
 mod work;
 
-use calls::{Line, read_line};
+use answers::Answer;
+use calls::read_line;
+use fault::Fault;
 use std::io;
 use std::io::{BufRead, BufReader, BufWriter, Write};
 use store::Store;
@@ -29,13 +31,18 @@ fn run(rt: &HostRuntime) -> io::Result<()> {
 
 // Makes the line's call, and prints what it answers or why it answers nothing.
 fn tell<W: Write>(out: &mut W, store: &mut Store, text: &str) -> io::Result<()> {
-    let told = match read_line(text) {
-        Ok(Line::Nothing) => return Ok(()),
-        Ok(Line::OnMask(number, call)) => store.answer(number, call),
-        Err(fault) => Err(fault),
-    };
-    match told {
-        Ok(answer) => writeln!(out, "{text} -> {answer}"),
+    match answer_line(store, text) {
+        Ok(None) => Ok(()),
+        Ok(Some(answer)) => writeln!(out, "{text} -> {answer}"),
         Err(fault) => writeln!(out, "{text} -> {fault}"),
     }
+}
+
+// What the line's call answers, if it makes one.
+fn answer_line(store: &mut Store, text: &str) -> Result<Option<Answer>, Fault> {
+    let Some(request) = read_line(text)? else {
+        return Ok(None);
+    };
+    let answer = store.answer(request)?;
+    Ok(Some(answer))
 }

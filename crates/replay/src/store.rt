@@ -1,10 +1,20 @@
 // The masks by their numbers.
+ghost use Rattle.std.specs.Prelude.{◌≡◌, ℕ, Bool, None, Ok, Result};
+ghost use Rattle.std.specs.Borrow.{sem};
+ghost use Rattle.index.specs.declared.refusal.Refusal.{Refusal};
+ghost use Rattle.mask.specs.Kinds.{Tells};
+ghost use Rattle.replay.specs.declared.answers.Answer.TheVariants.{Flag};
+ghost use Rattle.replay.specs.Calls.{moved};
+ghost use Rattle.replay.specs.Masks.{picture_of, flagged, Compares};
+ghost use Rattle.replay.specs.Stores.{mask_at, Found, OfMask, OnMask, Makes, Changed, Shown, Answers, lends_mask};
+
 use crate::answers::Answer;
-use crate::calls::{Call, Change, Combination, Kind};
+use crate::calls::{Call, Change, Combination, NewMask, Request};
 use crate::fault::Fault;
 use crate::kinds::AnyMask;
 use std::alloc::Global;
 use std::collections::BTreeMap;
+use std::mem;
 
 #[derive(Drop)]
 pub struct Store {
@@ -14,7 +24,9 @@ pub struct Store {
 
 impl Store {
     // No masks.
-    pub fn new(heap: Global) -> Store {
+    pub fn new(heap: Global) -> Store
+        ensures { (number : ℕ) → mask_at result number ≡ None }
+    {
         Store {
             heap,
             masks: BTreeMap::new(heap),
@@ -22,9 +34,13 @@ impl Store {
     }
 
     // What a call on the mask of that number answers.
-    pub fn answer(&mut self, number: usize, call: Call) -> Result<Answer, Fault> {
-        match call {
-            Call::Make(kind, domain, full) => self.make(number, kind, domain, full),
+    // Calls are read from text, and reading may hand out no closure, so they are matched on here and below.
+    pub fn answer(&mut self, request: Request) -> Result<Answer, Fault>
+        ensures { Answers self.old request.mask result self.new request.call }
+    {
+        let number = request.mask;
+        match request.call {
+            Call::Make(wanted) => self.make(number, wanted),
             Call::Change(change) => self.change(number, change),
             Call::Combine(combination, operand) => self.combine(number, combination, operand),
             Call::Ask(question) => self.mask(number)?.ask(self.heap, question),
@@ -35,31 +51,36 @@ impl Store {
         }
     }
 
-    fn mask(&self, number: usize) -> Result<&AnyMask, Fault> {
-        match self.masks.get(&number) {
+    fn mask(&self, number: usize) -> Result<&AnyMask, Fault>
+        ensures { Found self.now number result (λ r. r.now) }
+    {
+        self.masks.get(&number).ok_or(Fault::Missing)
+    }
+
+    fn mask_mut(&mut self, number: usize) -> Result<&mut AnyMask, Fault>
+        ensures* writes_back { sem 𝓛 (lends_mask self.entry number result) }
+        ensures value { Found self.old number result (λ r. r.now) }
+    {
+        // Through ok_or no borrow is followed, so the contract is not proved of it.
+        match self.masks.get_mut(&number) {
             Some(mask) => Ok(mask),
             None => Err(Fault::Missing),
         }
     }
 
     // Makes a mask, in the place of one of the same number.
-    fn make(
-        &mut self,
-        number: usize,
-        kind: Kind,
-        domain: usize,
-        full: bool,
-    ) -> Result<Answer, Fault> {
-        let mask = AnyMask::new(self.heap, kind, domain, full)?;
+    fn make(&mut self, number: usize, wanted: NewMask) -> Result<Answer, Fault>
+        ensures { Makes self.old number result self.new wanted }
+    {
+        let mask = AnyMask::new(self.heap, wanted)?;
         self.masks.insert(number, mask)?;
         Ok(Answer::Made)
     }
 
-    fn change(&mut self, number: usize, change: Change) -> Result<Answer, Fault> {
-        let Some(mask) = self.masks.get_mut(&number) else {
-            return Err(Fault::Missing);
-        };
-        let (entered, left) = mask.change(change)?;
+    fn change(&mut self, number: usize, change: Change) -> Result<Answer, Fault>
+        ensures { Changed self.old number result self.new (moved change) }
+    {
+        let (entered, left) = self.mask_mut(number)?.change(change)?;
         Ok(Answer::Report(entered, left))
     }
 
@@ -74,9 +95,7 @@ impl Store {
             let other = self.mask(number)?.copy(self.heap)?;
             return self.combine_with(number, combination, &other);
         }
-        let Some(other) = self.masks.remove(&operand) else {
-            return Err(Fault::Missing);
-        };
+        let other = self.masks.remove(&operand).ok_or(Fault::Missing)?;
         let answer = self.combine_with(number, combination, &other);
         self.masks.insert(operand, other)?;
         answer
@@ -88,29 +107,31 @@ impl Store {
         combination: Combination,
         other: &AnyMask,
     ) -> Result<Answer, Fault> {
-        let Some(mask) = self.masks.get_mut(&number) else {
-            return Err(Fault::Missing);
-        };
-        let (entered, left) = mask.combine(combination, other)?;
+        let (entered, left) = self.mask_mut(number)?.combine(combination, other)?;
         Ok(Answer::Report(entered, left))
     }
 
-    fn superset(&self, number: usize, other: usize) -> Result<Answer, Fault> {
+    fn superset(&self, number: usize, other: usize) -> Result<Answer, Fault>
+        ensures { OfMask self.now number result (λ m. OfMask self.now other result (λ o. (b : Result Bool Refusal) × Compares m o b × (result ≡ flagged b))) }
+    {
         let flag = self.mask(number)?.superset(self.mask(other)?)?;
         Ok(Answer::Flag(flag))
     }
 
-    fn equal(&self, number: usize, other: usize) -> Result<Answer, Fault> {
+    fn equal(&self, number: usize, other: usize) -> Result<Answer, Fault>
+        ensures { OfMask self.now number result (λ m. OfMask self.now other result (λ o. (b : Bool) × Tells b (picture_of m ≡ picture_of o) × (result ≡ Ok (Flag b)))) }
+    {
         let flag = self.mask(number)?.same_picture(self.mask(other)?);
         Ok(Answer::Flag(flag))
     }
 
     // A mask shows its words when it ends, so a copy takes its place.
-    fn picture(&mut self, number: usize) -> Result<Answer, Fault> {
-        let copy = self.mask(number)?.copy(self.heap)?;
-        match self.masks.insert(number, copy)? {
-            Some(mask) => mask.into_picture(self.heap),
-            None => Err(Fault::Missing),
-        }
+    fn picture(&mut self, number: usize) -> Result<Answer, Fault>
+        ensures { OnMask self.old number result self.new (Shown self.old number result self.new) }
+    {
+        let heap = self.heap;
+        let mask = self.mask_mut(number)?;
+        let copy = mask.copy(heap)?;
+        Ok(mem::replace(mask, copy).into_picture())
     }
 }

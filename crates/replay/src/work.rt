@@ -1,8 +1,7 @@
 // Calls that masks of every kind have.
-ghost use Rattle.std.specs.Prelude.{◌≡◌, false, replicate, IfOk, MatchResult};
+ghost use Rattle.std.specs.Prelude.{◌≡◌, false, replicate, IfOk, IfErr, OnErr};
 ghost use Rattle.index.specs.declared.refusal.Refusal.TheVariants.{Memory};
-ghost use Rattle.mask.specs.Kinds.{Answered, Kept};
-ghost use Rattle.mask.specs.Machine.{combine};
+ghost use Rattle.mask.specs.Kinds.{Changed, combining};
 ghost use Rattle.replay.specs.Calls.{moved, table_of};
 ghost use Rattle.replay.specs.Masks.{Asked};
 
@@ -15,24 +14,21 @@ use std::alloc::Global;
 
 // A mask with every index of its domain or none.
 pub fn make_mask<M: Mask>(domain_size: usize, memory: M::Memory, full: bool) -> Result<M, Refusal>
-    ensures { MatchResult result (λ m. (M.domain m ≡ domain_size) × (M.members m ≡ replicate domain_size full)) (λ e. (M.suffices domain_size memory ≡ false) × (e ≡ Memory)) }
+    ensures domain { IfOk result (λ m. M.kind.domain m ≡ domain_size) }
+    ensures members { IfOk result (λ m. M.kind.members m ≡ replicate domain_size full) }
+    ensures short { OnErr result (M.backing.suffices domain_size memory ≡ false) }
+    ensures refused { IfErr result (λ e. e ≡ Memory) }
 {
-    let made = if full {
-        M::new_filled(domain_size, memory)
-    } else {
-        M::new_empty(domain_size, memory)
-    };
-    match made {
-        Ok(mask) => Ok(mask),
-        Err(refused) => Err(refused.refusal),
-    }
+    M::new_uniform(full, domain_size, memory).map_err(|refused| refused.refusal)
 }
 
 // Another mask of the same domain and members.
 pub fn copy_mask<M: Mask>(mask: &M, memory: M::Memory) -> Result<M, Refusal>
-    ensures { IfOk result (λ m. (M.domain m ≡ M.domain mask.now) × (M.members m ≡ M.members mask.now)) }
+    ensures domain { IfOk result (λ m. M.kind.domain m ≡ M.kind.domain mask.now) }
+    ensures members { IfOk result (λ m. M.kind.members m ≡ M.kind.members mask.now) }
 {
     let mut copy: M = make_mask(mask.domain_size(), memory, false)?;
+    // Not every kind is Drop, and a closure for the refusal would take the copy from the other arm.
     match copy.clone_from(mask) {
         Ok(_) => Ok(copy),
         Err(refusal) => {
@@ -43,8 +39,7 @@ pub fn copy_mask<M: Mask>(mask: &M, memory: M::Memory) -> Result<M, Refusal>
 }
 
 pub fn change_mask<M: Mask>(mask: &mut M, change: Change) -> Result<(usize, usize), Refusal>
-    ensures machine { Answered M.domain M.rule M.members mask.old (moved change) result mask.new }
-    ensures kept { Kept M.domain M.rule M.spare mask.old mask.new }
+    ensures { Changed M.kind mask.old (moved change) result mask.new }
 {
     match change {
         Change::Insert(index) => mask.insert(index),
@@ -59,8 +54,8 @@ pub fn combine_masks<M: Mask>(
     combination: Combination,
     other: &M,
 ) -> Result<(usize, usize), Refusal>
-    ensures machine { Answered M.domain M.rule M.members mask.old (combine (table_of combination) (M.domain other.now) (M.members other.now)) result mask.new }
-    ensures kept { Kept M.domain M.rule M.spare mask.old mask.new }
+    ensures { Changed M.kind mask.old (combining M.kind (table_of combination) other.now)
+        result mask.new }
 {
     match combination {
         Combination::Union => mask.union(other),
@@ -73,7 +68,7 @@ pub fn combine_masks<M: Mask>(
 }
 
 pub fn ask_mask<M: Mask>(heap: Global, mask: &M, question: Question) -> Result<Answer, Fault>
-    ensures { Asked (M.domain mask.now) (M.members mask.now) question result }
+    ensures { Asked (M.kind.domain mask.now) (M.kind.members mask.now) question result }
 {
     match question {
         Question::Contains(index) => Ok(Answer::Flag(mask.contains(index)?)),

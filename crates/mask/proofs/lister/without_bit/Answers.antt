@@ -18,6 +18,6 @@ smaller w v k e hk set = elim (cases_eq v w) [
 
 pub returns : goal.returns
 returns c = record {
-  less = smaller c.args.word _ c.args.k refl c.requires.0 c.requires.1;
-  bits = λ b h. cleared c.args.word c.args.k b c.requires.0 h;
+  less = smaller c.args.word _ c.args.k refl c.requires.inside c.requires.set;
+  bits = λ b h. cleared c.args.word c.args.k b c.requires.inside h;
 }

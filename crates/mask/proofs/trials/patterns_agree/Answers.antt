@@ -4,9 +4,6 @@ use Rattle.mask.specs.Trials.{pattern_trial}
 use Rattle.mask.proofs.Patterns.{round_alike, round_more, agree_on, agree_on_all}
 use Rattle.mask.proofs.trials.patterns_agree.Goals as goal
 
-pub loop-round-init : goal.loop-round-init
-loop-round-init g c v h = absurd (omega arith)
-
 pub returns-then-trial_word : goal.returns-then-trial_word
 returns-then-trial_word g c agree =
     let F : ℕ → Bool = λ v. pattern_trial g.T.Idx.place g.O.Operator.table v c.args.xs.now in
@@ -23,5 +20,5 @@ loop-round-preserved g c =
 
 pub returns : goal.returns
 returns g c =
-    agree_on_all g.T.Idx.place g.O.Operator.table c.args.xs.now c.args.ys.now c.requires.0 c.requires.1
+    agree_on_all g.T.Idx.place g.O.Operator.table c.args.xs.now c.args.ys.now c.requires.first c.requires.second
     (λ v h. c.loop-round.invariant v (omega (arith, c.loop-round-test.false)))

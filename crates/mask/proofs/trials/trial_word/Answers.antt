@@ -1,18 +1,13 @@
 -- Each call turns the sixty-four bits as it turns one.
-use Rattle.std.proofs.Common.{◌+◌, ◌*◌, Bool, sym, ap, ◌∙◌, subst}
+use Rattle.std.proofs.Common.{◌+◌, ◌*◌, sym, ◌∙◌, subst}
 use Rattle.words.specs.Bits.{bit}
-use Rattle.mask.specs.Trials.{Named, trial}
-use Rattle.mask.proofs.Operands.{all_named}
+use Rattle.mask.specs.Trials.{Named}
 use Rattle.mask.proofs.Patterns.{tried_row, trial_more, trial_none}
 use Rattle.mask.proofs.trials.trial_word.Goals as goal
 
-pub loop-c-init : goal.loop-c-init
-loop-c-init g c k h =
-    ap (λ (x : Bool). trial g.T.Idx.place g.O.Operator.table (λ j. bit (64 * c.args.round + k) (j + 1)) x c.args.calls.now) (c.pattern_word-word.ensures k h)
-
 pub trial_step-word-requires : goal.trial_step-word-requires
 trial_step-word-requires g c =
-    subst (Named 16) (sym c.c-item.is) (all_named 16 c.args.calls.now (tried_row c.args.calls.now c.requires) c.loop-c.c-index c.c-item.result c.loop-c-test.true)
+    subst (Named 16) (sym c.c-item.is) (tried_row c.args.calls.now c.requires c.loop-c.c-index c.c-item.result c.loop-c-test.true)
 
 pub loop-c-preserved : goal.loop-c-preserved
 loop-c-preserved g c k h =

@@ -13,14 +13,6 @@ use Rattle.dense.proofs.bit_set.DenseBitSet.combine_with.Goals as goal
 pub returns-then-self-other : goal.returns-then-self-other
 returns-then-self-other g c = record { machine = combine_out _ _ _ _ _ _ c.if-self-other.true; kept = (refl, refl, refl) }
 
-pub invariant_of-self : goal.invariant_of-self
-invariant_of-self g c =
-    let t = g.O.Operator.table c.args.op.now in
-    let s = c.args.self.now in
-    let b = lent_becomes s.words c.deref_mut.result.now c.combine_row.new.own c.deref_mut.ensures.value _ (λ i. look t (holds (vec_items s.words) i) (holds (vec_items c.args.other.now.words) i)) _ _
-    (λ i h. ap₂ (λ x y. look t (holds x i) (holds y i)) c.deref_mut.ensures.value c.deref.ensures.value) c.combine_row.ensures in
-    record { enough = s.enough; fit = b.fit; clean = b.clean }
-
 pub returns : goal.returns
 returns g c =
     let t = g.O.Operator.table c.args.op.now in

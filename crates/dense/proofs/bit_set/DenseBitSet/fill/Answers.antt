@@ -6,12 +6,6 @@ use Rattle.mask.proofs.Steps.{fill_in}
 use Rattle.rows.proofs.Tabs.{tab_const}
 use Rattle.dense.proofs.bit_set.DenseBitSet.fill.Goals as goal
 
-pub invariant_of-self : goal.invariant_of-self
-invariant_of-self c =
-    let s = c.args.self.now in
-    let b = lent_becomes s.words c.deref_mut.result.now c.fill_row.new.own c.deref_mut.ensures.value _ (λ _. c.args.on) _ _ (λ i h. refl) c.fill_row.ensures in
-    record { enough = s.enough; fit = b.fit; clean = b.clean }
-
 pub returns : goal.returns
 returns c =
     let s = c.args.self.now in

@@ -14,19 +14,15 @@ fill_row-requires c =
     c.deref_mut.ensures.value ∙ c.clear_words.ensures.items ∙ ap (λ w. replicate w 0 ++ drop w (vec_items c.args.memory)) c.num_words-n.ensures in
     record { enough = omega (arith, c.deref_mut.ensures.len, c.clear_words.ensures.len, c.len.ensures, c.num_words-n.ensures); clean = blank_clean c.args.domain_size _ _ e }
 
-pub invariant_of-result : goal.invariant_of-result
-invariant_of-result c =
-    let b = lent_becomes c.clear_words.new.words c.deref_mut.result.now c.fill_row.new.own c.deref_mut.ensures.value _ (λ _. c.args.full) _ _ (λ i h. refl) c.fill_row.ensures in
-    record { enough = omega (arith, c.clear_words.ensures.len, c.len.ensures, c.num_words-n.ensures); fit = b.fit; clean = b.clean }
-
 pub returns : goal.returns
 returns c =
     let n = c.args.domain_size in
     let b = lent_becomes c.clear_words.new.words c.deref_mut.result.now c.fill_row.new.own c.deref_mut.ensures.value _ (λ _. c.args.full) _ _ (λ i h. refl) c.fill_row.ensures in
-    let cleared = c.clear_words.ensures.items ∙ ap (λ w. replicate w 0 ++ drop w (vec_items c.args.memory)) c.num_words-n.ensures in (
-      le-leb (words_for n) (vec_len c.args.memory) (omega (arith, c.len.ensures, c.num_words-n.ensures)),
-      refl,
-      becomes_members _ _ _ _ _ b ∙ tab_const c.args.full n,
-      refl,
-      becomes_behind _ n _ _ _ b ∙ blank_behind (words_for n) (vec_items c.clear_words.new.words) (vec_items c.args.memory) cleared,
-    )
+    let cleared = c.clear_words.ensures.items ∙ ap (λ w. replicate w 0 ++ drop w (vec_items c.args.memory)) c.num_words-n.ensures in
+    record {
+      enough = le-leb (words_for n) (vec_len c.args.memory) (omega (arith, c.len.ensures, c.num_words-n.ensures));
+      domain = refl;
+      members = becomes_members _ _ _ _ _ b ∙ tab_const c.args.full n;
+      rule = refl;
+      spare = becomes_behind _ n _ _ _ b ∙ blank_behind (words_for n) (vec_items c.clear_words.new.words) (vec_items c.args.memory) cleared;
+    }

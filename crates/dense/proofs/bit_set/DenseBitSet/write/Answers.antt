@@ -17,7 +17,7 @@ invariant_of-self c =
     let inside : c.args.index < s.domain_size = omega arith in
     let at = lent_write s.words row c.write_bit-turned.new.words c.deref_mut.ensures.value s.domain_size c.args.index c.args.on inside c.write_bit-turned.ensures.row in
     let fit = lent_write_fit s.words row c.write_bit-turned.new.words c.deref_mut.ensures.value s.domain_size c.args.index c.args.on inside c.write_bit-turned.ensures.row in
-    record { enough = s.enough; fit = fit s.fit; clean = put_clean s.domain_size c.args.index _ _ c.args.on inside at s.clean }
+    record { small = s.small; enough = s.enough; fit = fit s.fit; clean = put_clean s.domain_size c.args.index _ _ c.args.on inside at s.clean }
 
 pub returns : goal.returns
 returns c =

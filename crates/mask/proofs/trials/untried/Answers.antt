@@ -1,0 +1,12 @@
+use Rattle.std.proofs.Common.{rules, tests}
+use Rattle.std.proofs.lemmas.Iterator.{YieldsList-from_slice}
+use Rattle.std.proofs.lemmas.Iterator.Consumers.{YieldsList-from_chain}
+use Rattle.mask.specs.Trials.{untried_call}
+use Rattle.mask.proofs.Firsts.{first_answer-from_find_map}
+use Rattle.mask.proofs.trials.untried.Goals as goal
+
+pub returns : goal.returns
+returns g c =
+    first_answer-from_find_map untried_call c.find_map.result c.find_map.ensures.runs
+    (YieldsList-from_chain (YieldsList-from_slice c.args.xs.now cc) (YieldsList-from_slice c.args.ys.now cc) (cc) (cc))
+    (λ x r q k. search (rules, tests))
