@@ -1,14 +1,10 @@
 -- Where the columns of a strip start and end.
-use Rattle.std.proofs.Common.{◌≡◌, ℕ, zero, suc, ◌+◌, ◌*◌, ◌/◌, ◌<◌, ◌≤◌, inl, inr, zero-mul, div-mul-le_self, add-one, arith}
-use native.Mathlib.Nat.{div-le_of_le-mul, mul-div_cancel_left, zero-div}
-use Rattle.std.proofs.lemmas.Nat.{mul-le, le-div}
+use Rattle.std.proofs.Common.{◌≡◌, ℕ, zero, suc, ◌+◌, ◌*◌, ◌/◌, ◌<◌, ◌≤◌, inl, inr, zero-mul, add-one, arith}
+use native.Mathlib.Nat.{mul-div_cancel_left, zero-div}
 use Rattle.std.proofs.lemmas.Bool.{cases_lt}
 use Rattle.splice.specs.Strips.{columns_of, edge, Tiled}
 
-pub quotient_le : (j n c : ℕ) → j ≤ c → j * n / c ≤ n
-quotient_le j n c h = div-le_of_le-mul c (mul-le j n c n h (omega arith))
-
-pub edge_last : (n : ℕ) → edge n (columns_of n) ≡ n
+edge_last : (n : ℕ) → edge n (columns_of n) ≡ n
 edge_last n = elim (cases_lt 0 n) [
   | inl some ↦ (let pos : 0 < columns_of n = omega arith in mul-div_cancel_left n pos)
   | inr none ↦ (let z : n ≡ 0 = omega arith in rw z)
@@ -25,9 +21,3 @@ column_of n i (suc m) h = elim (cases_lt i (edge n m)) [
 
 pub tiled : (n : ℕ) → Tiled n
 tiled n i h = column_of n i (columns_of n) (rw (edge_last n) h)
-
--- ---- a column ends where it starts or after it
-
-pub quotient_more : (j n c : ℕ) → 0 < c → j * n / c ≤ (j + 1) * n / c
-quotient_more j n c some =
-    le-div (j * n / c) ((j + 1) * n) c some (omega (arith, div-mul-le_self (j * n) c, mul-le j n (j + 1) n (omega arith) (omega arith)))

@@ -7,7 +7,7 @@ use Rattle.index.specs.declared.refusal.Refusal.{Refusal}
 use Rattle.words.specs.declared.table.Table.{Table}
 use Rattle.words.specs.Bits.{bit, holds, tally, set_bits, words_for}
 use Rattle.words.specs.Rows.{Rewritten, Put, put, enters, shared, combined, entered, left, capped}
-use Rattle.words.specs.Tables.{look}
+use Rattle.words.specs.Tables.{look, or_table, and_table, complemented}
 use Rattle.words.proofs.Bitwise.{bit_none}
 use Rattle.words.proofs.RowBits.{holds_past}
 use Rattle.words.proofs.Tallies.{tally_le, tally_same, tally_trim}
@@ -15,7 +15,8 @@ use Rattle.splice.specs.declared.steps.Call.{Call}
 use Rattle.splice.specs.declared.steps.Call.TheVariants.{Lay, Lift}
 use Rattle.splice.specs.declared.steps.Step.{Step}
 use Rattle.splice.specs.declared.strip.Strip.{Strip}
-use Rattle.splice.specs.Masks.{between, after, gained, Combined, Worked}
+use Rattle.splice.specs.Masks.{between, HasAdvert, after, gained, Combined, Worked}
+use Rattle.splice.specs.Steps.{IsInside}
 use Rattle.splice.specs.Strips.{Drawn}
 
 -- ---- a row with no sample
@@ -48,8 +49,8 @@ module _ (first : ℕ) where
       let s = so i in h.2.bits i ∙ ap (cond (eqb i p) true) s ∙ grind (arith, nat_tests)
   put_more old new p (Err e) h within up so i = absurd (omega (arith, h.0))
 
-  pub put_all : (ws : List ℕ) (p last : ℕ) → p ≡ last + 1 → SoFar ws p → (i : ℕ) → holds ws i ≡ between first last i
-  put_all ws p last e so i = so i ∙ grind (arith, nat_tests)
+  pub put_last : (old new : List ℕ) (p last : ℕ) (r : Result Bool Refusal) → Put true p old new r → p < 64 * length old → first ≤ p → p ≡ last → SoFar old p → (i : ℕ) → holds new i ≡ between first last i
+  put_last old new p last r h within up is so i = put_more old new p r h within up so i ∙ grind (arith, nat_tests)
 
 -- ---- a row combined with another of its length
 
@@ -81,8 +82,29 @@ module _ (t : Table) (call : Call) (same : (a b : Bool) → look t a b ≡ after
   unfolding left
   went_is = tally_same _ (λ i. enters (holds new i) (holds us i)) 0 0 (shared us vs) (λ i h. ap (λ x. enters x (holds us (0 + i))) (look_new (0 + i))) ∙ ap (tally (λ i. enters (holds new i) (holds us i)) 0) all
 
-  pub combine_all : (e l : ℕ) → e ≡ capped (entered t us vs) → l ≡ capped (left t us vs) → Combined call us vs new e l
+  combine_all : (e l : ℕ) → e ≡ capped (entered t us vs) → l ≡ capped (left t us vs) → Combined call us vs new e l
   combine_all e l he hl = record { long = row.long; bits = new_bits; came = he ∙ ap capped came_is; went = hl ∙ ap capped went_is }
+
+lays : (a b : Bool) → look or_table a b ≡ after Lay a b
+lays true true = refl
+lays true false = refl
+lays false true = refl
+lays false false = refl
+
+lifts : (a b : Bool) → look (complemented and_table) a b ≡ after Lift a b
+lifts true true = refl
+lifts true false = refl
+lifts false true = refl
+lifts false false = refl
+
+-- `Or` is laying, and `And` with the operand's complement lifting
+module _ (call : Call) (us vs new : List ℕ) (e l : ℕ) (long : length us ≡ length vs) where
+  pub combined_by_lay : call ≡ Lay → Rewritten (combined or_table us vs) us new → e ≡ capped (entered or_table us vs) → l ≡ capped (left or_table us vs) → Combined call us vs new e l
+  combined_by_lay is row he hl = rw is (combine_all or_table Lay lays us vs new long row e l he hl)
+
+  pub combined_by_lift : call ≡ Lift → Rewritten (combined (complemented and_table) us vs) us new → e ≡ capped (entered (complemented and_table) us vs) → l ≡ capped (left (complemented and_table) us vs)
+      → Combined call us vs new e l
+  combined_by_lift is row he hl = rw is (combine_all (complemented and_table) Lift lifts us vs new long row e l he hl)
 
 pub combined_at : {call : Call} {old old' advert advert' new new' : List ℕ} (e l : ℕ) → old ≡ old' → advert ≡ advert' → new ≡ new' → Combined call old advert new e l
     → Combined call old' advert' new' e l
@@ -98,7 +120,7 @@ module _ (n : ℕ) (fits : n < 2 ^ 64) where
       let e = tally_trim (holds ws) n (64 * length ws) (omega arith) (λ i l h. ends i l) in
       omega (arith, e, tally_le (holds ws) 0 n)
 
-  pub gained_all : (old new : List ℕ) (c : ℕ) → length old ≡ words_for n → ((i : ℕ) → n ≤ i → holds old i ≡ false) → ((i : ℕ) → n ≤ i → holds new i ≡ false)
+  gained_all : (old new : List ℕ) (c : ℕ) → length old ≡ words_for n → ((i : ℕ) → n ≤ i → holds old i ≡ false) → ((i : ℕ) → n ≤ i → holds new i ≡ false)
       → c ≡ capped (gained (64 * length old) old new) → c ≡ gained n old new
   gained_all old new c long old-ends new-ends e =
       let p = (λ (i : ℕ). enters (holds old i) (holds new i)) in
@@ -111,16 +133,16 @@ no_advert : (first last n i : ℕ) → last < n → n ≤ i → between first la
 no_advert first last n i h l = grind (arith, nat_tests)
 
 -- an advert that ends within the n samples leaves nothing past them
-module _ (step : Step) (n : ℕ) (old advert new : List ℕ) (e l : ℕ) (row : Combined step.call old advert new e l) (put : (i : ℕ) → holds advert i ≡ between step.first step.last i)
-    (inside : step.last < n) (ends : (i : ℕ) → n ≤ i → holds old i ≡ false) where
-  pub worked_ends : (i : ℕ) → n ≤ i → holds new i ≡ false
+module _ (step : Step) (n : ℕ) (old advert new : List ℕ) (e l : ℕ) (row : Combined step.call old advert new e l) (put : HasAdvert step advert)
+    (inside : IsInside step n) (ends : (i : ℕ) → n ≤ i → holds old i ≡ false) where
+  worked_ends : (i : ℕ) → n ≤ i → holds new i ≡ false
   worked_ends i h =
-      row.bits i ∙ ap₂ (after step.call) (ends i h) (put i ∙ no_advert step.first step.last n i inside h) ∙ after_none step.call
+      row.bits i ∙ ap₂ (after step.call) (ends i h) (put i ∙ no_advert step.first step.last n i inside.within h) ∙ after_none step.call
 
-  pub worked_all : step.first ≤ step.last → n < 2 ^ 64 → length old ≡ words_for n → (a : ℕ) (s : Strip) → a ≡ tally (holds new) 0 n → Drawn n new s
+  pub worked_all : n < 2 ^ 64 → length old ≡ words_for n → (a : ℕ) (s : Strip) → a ≡ tally (holds new) 0 n → Drawn n new s
       → Worked step n old new (record { entered = e; left = l; advert = a; strip = s })
-  worked_all order small long a s count drawn = record {
-    inside = (order, inside);
+  worked_all small long a s count drawn = record {
+    inside = inside;
     samples = λ i. row.bits i ∙ ap (after step.call (holds old i)) (put i);
     entered = gained_all n small old new e long ends worked_ends row.came;
     left = gained_all n small new old l (row.long ∙ long) worked_ends ends (row.went ∙ ap (λ m. capped (gained (64 * m) new old)) (sym row.long));

@@ -1,4 +1,5 @@
 pub mod Steps
 pub mod Masks
 pub mod Strips
+pub mod Episodes
 pub mod Lines

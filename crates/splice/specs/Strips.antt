@@ -4,8 +4,10 @@
 --   width        how many samples column j has
 --   Tiled        every sample lies in one of the columns
 --   mark_of      the mark of a column by how many of its samples are advert
+--   column_mark  the mark of column j of n samples, by which of them a row of words has
 --   Drawn        a strip shows which of n samples a row of words has
-use Rattle.std.specs.Prelude.{◌≡◌, ℕ, ◌+◌, ◌-◌, ◌*◌, ◌/◌, ◌<◌, ◌≤◌, min, cond, List, ◌==◌, slice_index_or}
+use Rattle.std.specs.Prelude.{◌≡◌, ℕ, ◌+◌, ◌-◌, ◌*◌, ◌/◌, ◌<◌, ◌≤◌, min, if◌then◌else◌, List, ◌==◌, slice_index_or}
+use Rattle.arrayvec.specs.ArrayVec.{array_vec_len}
 use Rattle.words.specs.Bits.{holds, tally}
 use Rattle.splice.specs.declared.strip.Mark.{Mark}
 use Rattle.splice.specs.declared.strip.Mark.TheVariants.{Clear, Part, Full}
@@ -24,8 +26,12 @@ abbrev pub Tiled : ℕ → Type 0
 Tiled n = (i : ℕ) → i < n → (j : ℕ) × (j < columns_of n) × (edge n j ≤ i) × (i < edge n (j + 1))
 
 abbrev pub mark_of : ℕ → ℕ → Mark
-mark_of advert samples = cond (advert == 0) Clear (cond (advert == samples) Full Part)
+mark_of advert samples =
+    if advert == 0 then Clear else (if advert == samples then Full else Part)
+
+abbrev pub column_mark : ℕ → List ℕ → ℕ → Mark
+column_mark n ws j = mark_of (tally (holds ws) (edge n j) (width n j)) (width n j)
 
 pub record Drawn (n : ℕ) (ws : List ℕ) (s : Strip) : Type 0 where
-  pub long : s.columns ≡ columns_of n
-  pub marks : (j : ℕ) → j < columns_of n → slice_index_or s.marks j Clear ≡ mark_of (tally (holds ws) (edge n j) (width n j)) (width n j)
+  pub long : array_vec_len s.marks ≡ columns_of n
+  pub marks : (j : ℕ) → j < columns_of n → slice_index_or s.marks.items j Clear ≡ column_mark n ws j

@@ -1,15 +1,13 @@
 // An episode and the mask of its adverts.
-ghost use Rattle.std.specs.Prelude.{◌≡◌, ℕ, ◌+◌, ◌*◌, ◌^◌, ◌<◌, ◌≤◌, false, ◌⊎◌, [], length, replicate, is_ok, IfOk, IfErr, if◌then◌else◌, vec_len, Decides, MatchResult, OnErr};
+ghost use Rattle.std.specs.Prelude.{◌≡◌, ℕ, ◌+◌, ◌*◌, ◌^◌, ◌<◌, ◌≤◌, ◌↔◌, false, ◌⊎◌, [], length, replicate, is_ok, IfOk, IfErr, if◌then◌else◌, vec_len, IsTrue, OnErr};
 ghost use Rattle.words.specs.Bits.{holds, tally, words_for};
 ghost use Rattle.splice.specs.declared.fault.Fault.TheVariants.{Memory};
-ghost use Rattle.splice.specs.declared.steps.Call.TheVariants.{Lay as Laying, Lift as Lifting};
-ghost use Rattle.splice.specs.Masks.{between, Combined, noted, Worked};
-ghost use Rattle.splice.specs.Steps.{Refused};
+ghost use Rattle.splice.specs.Masks.{HasAdvert, Combined, noted};
+ghost use Rattle.splice.specs.Steps.{IsInside, Refused};
 
 use crate::fault::Fault;
 use crate::steps::{Call, Step};
 use crate::strip::Strip;
-use index::Idx;
 use std::alloc::{AllocError, Global};
 use std::fmt;
 use words::{And, ComplementOperand, Or, Word, count_ones, insert, num_words, update_words};
@@ -29,7 +27,7 @@ pub struct Episode {
 }
 
 // What a step did to the mask.
-#[derive(Clone, Copy)]
+#[derive(Clone, Debug, Drop, PartialEq, Eq)]
 pub struct Report {
     pub entered: usize,
     pub left: usize,
@@ -38,16 +36,16 @@ pub struct Report {
 }
 
 impl Episode {
+    ghost use Rattle.splice.specs.Episodes.{IsClear, IsUnchanged, ChangesBy};
+
     // An episode with no advert.
     pub fn new(heap: Global, samples: usize) -> Result<Episode, Fault<'static>>
-        ensures { MatchResult result (λ e. (e.samples ≡ samples) × (e.mask.items ≡ replicate (words_for samples) 0) × (e.began.items ≡ replicate (words_for samples) 0) × (e.laid.items ≡ [])) (λ fault. fault ≡ Memory samples) }
+        ensures ok { IfOk result (IsClear samples) }
+        ensures memory { IfErr result (λ fault. fault ≡ Memory samples) }
     {
-        let Ok(mask) = clear_row(heap, samples) else {
-            return Err(Fault::Memory { samples });
-        };
-        let Ok(began) = clear_row(heap, samples) else {
-            return Err(Fault::Memory { samples });
-        };
+        let memory = |_: AllocError| Fault::Memory { samples };
+        let mask = clear_row(heap, samples).map_err(memory)?;
+        let began = clear_row(heap, samples).map_err(memory)?;
         Ok(Episode {
             samples,
             mask,
@@ -58,20 +56,16 @@ impl Episode {
 
     // Lays or lifts an advert. A step that is refused changes nothing.
     pub fn work(&mut self, heap: Global, step: Step) -> Result<Report, Fault<'static>>
-        ensures same { (self.new.samples ≡ self.old.samples) × (self.new.began.items ≡ self.old.began.items) }
-        ensures ok { IfOk result (λ report. Worked step self.old.samples self.old.mask.items self.new.mask.items report) }
-        ensures laid { self.new.laid.items ≡ (if is_ok result then noted step.call self.old.laid.items step else self.old.laid.items) }
-        ensures refused { IfErr result (λ fault. (fault ≡ Memory self.old.samples) ⊎ Refused step self.old.samples fault) }
-        ensures kept { OnErr result (self.new.mask.items ≡ self.old.mask.items) }
+        ensures ok { IfOk result (ChangesBy step self.old self.new) }
+        ensures refused { IfErr result (λ fault. (fault ≡ Memory self.old.samples)
+            ⊎ Refused step self.old.samples fault) }
+        ensures err { OnErr result (IsUnchanged self.old self.new) }
     {
         let samples = self.samples;
         step.check(samples)?;
-        let Ok(advert) = advert_row(heap, samples, step.first, step.last) else {
-            return Err(Fault::Memory { samples });
-        };
-        let Ok(()) = note(&mut self.laid, step) else {
-            return Err(Fault::Memory { samples });
-        };
+        let memory = |_: AllocError| Fault::Memory { samples };
+        let advert = advert_row(heap, samples, step).map_err(memory)?;
+        note(&mut self.laid, step).map_err(memory)?;
         let (entered, left) = combine(&mut self.mask, &advert, step.call);
         Ok(Report {
             entered,
@@ -102,7 +96,7 @@ impl Episode {
 
     // Whether the mask has the words that it began with.
     pub fn as_began(&self) -> bool
-        ensures { Decides result (self.now.mask.items ≡ self.now.began.items) }
+        ensures { IsTrue result ↔ (self.now.mask.items ≡ self.now.began.items) }
     {
         self.mask == self.began
     }
@@ -110,7 +104,10 @@ impl Episode {
     // The steps that laid an advert, in order; the episode forgets them.
     pub fn take_laid(&mut self, heap: Global) -> Vec<Step>
         ensures value { result.items ≡ self.old.laid.items }
-        ensures same { (self.new.samples ≡ self.old.samples) × ((self.new.mask.items ≡ self.old.mask.items) × (self.new.began.items ≡ self.old.began.items)) }
+        ensures samples { self.new.samples ≡ self.old.samples }
+        ensures mask { self.new.mask.items ≡ self.old.mask.items }
+        ensures began { self.new.began.items ≡ self.old.began.items }
+        ensures forgotten { self.new.laid.items ≡ [] }
     {
         std::mem::replace(&mut self.laid, Vec::new(heap))
     }
@@ -118,29 +115,28 @@ impl Episode {
 
 // The words of a mask of so many samples, with none of them in it.
 fn clear_row(heap: Global, samples: usize) -> Result<Vec<Word>, AllocError>
-    ensures { IfOk result (λ v. (vec_len v ≡ words_for samples) × (v.items ≡ replicate (words_for samples) 0)) }
+    ensures len { IfOk result (λ row. vec_len row ≡ words_for samples) }
+    ensures items { IfOk result (λ row. row.items ≡ replicate (words_for samples) 0) }
 {
     vec![in heap; 0; num_words(samples)]
 }
 
-// The words of a mask of so many samples, with those from `first` to `last` in it.
-fn advert_row(
-    heap: Global,
-    samples: usize,
-    first: usize,
-    last: usize,
-) -> Result<Vec<Word>, AllocError>
-    requires { (first ≤ last) × (last < samples) }
-    ensures { IfOk result (λ v. (vec_len v ≡ words_for samples) × ((i : ℕ) → holds v.items i ≡ between first last i)) }
+// The words of a mask of so many samples, with those of a step in it.
+fn advert_row(heap: Global, samples: usize, step: Step) -> Result<Vec<Word>, AllocError>
+    requires { IsInside step samples }
+    ensures len { IfOk result (λ row. vec_len row ≡ words_for samples) }
+    ensures bits { IfOk result (λ row. HasAdvert step row.items) }
 {
     let mut row = clear_row(heap, samples)?;
-    put_samples(&mut row, first, last);
+    put_samples(&mut row, step);
     Ok(row)
 }
 
 // Keeps a step that lays an advert, after those before it. A step that lifts one is not kept.
+// The call is read from text, and a closure would be chosen by the same match.
 fn note(laid: &mut Vec<Step>, step: Step) -> Result<(), AllocError>
-    ensures { laid.new.items ≡ (if is_ok result then noted step.call laid.old.items step else laid.old.items) }
+    ensures { laid.new.items
+        ≡ (if is_ok result then noted step.call laid.old.items step else laid.old.items) }
 {
     match step.call {
         Call::Lay => laid.push(step)?,
@@ -149,41 +145,27 @@ fn note(laid: &mut Vec<Step>, step: Step) -> Result<(), AllocError>
     Ok(())
 }
 
-// Puts the samples from `first` to `last` into a row that has none. The row reaches them, so none is refused.
-fn put_samples(row: &mut [Word], first: usize, last: usize)
+// Puts a step's samples into a row that has none. The row reaches them, so none is refused.
+fn put_samples(row: &mut [Word], step: Step)
     requires none { (i : ℕ) → holds row.old i ≡ false }
-    requires within { (first ≤ last) × ((last < 64 * length row.old) × (last + 1 < 2 ^ 64)) }
+    requires reaches { IsInside step (64 * length row.old) }
     ensures len { length row.new ≡ length row.old }
-    ensures bits { (i : ℕ) → holds row.new i ≡ between first last i }
+    ensures bits { HasAdvert step row.new }
 {
-    for sample in first..last + 1 {
-        let _ = insert(row, sample);
+    for sample in step.first..=step.last {
+        insert(row, sample).unwrap();
     }
 }
 
-// Lays an advert into a mask, and answers how many samples entered and left.
-fn lay(mask: &mut [Word], advert: &[Word]) -> (usize, usize)
-    requires { length mask.old ≡ length advert.now }
-    ensures { Combined Laying mask.old advert.now mask.new result.0 result.1 }
-{
-    update_words(mask, advert, &Or)
-}
-
-// Lifts an advert out of a mask, and answers how many samples entered and left.
-fn lift(mask: &mut [Word], advert: &[Word]) -> (usize, usize)
-    requires { length mask.old ≡ length advert.now }
-    ensures { Combined Lifting mask.old advert.now mask.new result.0 result.1 }
-{
-    update_words(mask, advert, &ComplementOperand { below: And })
-}
-
+// Lays an advert into a mask or lifts it out, and answers how many samples entered and left.
+// The call is read from text, so it is matched here: an operator or a closure would be chosen by the same match.
 fn combine(mask: &mut [Word], advert: &[Word], call: Call) -> (usize, usize)
     requires { length mask.old ≡ length advert.now }
     ensures { Combined call mask.old advert.now mask.new result.0 result.1 }
 {
     match call {
-        Call::Lay => lay(mask, advert),
-        Call::Lift => lift(mask, advert),
+        Call::Lay => update_words(mask, advert, &Or),
+        Call::Lift => update_words(mask, advert, &ComplementOperand { below: And }),
     }
 }
 
@@ -194,7 +176,7 @@ impl fmt::Display for Report {
             left,
             advert,
             strip,
-        } = *self;
+        } = self;
         write!(
             f,
             "{entered} entered, {left} left, {advert} advert now\n  {strip}"

@@ -6,33 +6,33 @@ use crate::fault::Fault;
 use crate::steps::{Line, Step, read_line};
 use std::alloc::Global;
 
-#[derive(Clone, Copy)]
+#[derive(Clone, Debug, Drop, PartialEq, Eq)]
 pub enum Outcome {
-    Nothing,
     Began(usize),
     Worked(Step, Report),
 }
 
-// Begins the episode or works a step on it, as the line says. A line that is refused changes nothing.
+// Begins the episode or works a step on it, as the line says, and does nothing where the line says nothing.
+// A line that is refused changes nothing.
 pub fn work_line<'a>(
     heap: Global,
     text: &'a str,
     airing: &mut Option<Episode>,
-) -> Result<Outcome, Fault<'a>>
+) -> Result<Option<Outcome>, Fault<'a>>
     ensures { Told airing.old airing.new result }
 {
     match read_line(text)? {
-        Line::Nothing => Ok(Outcome::Nothing),
-        Line::Length(samples) => {
+        None => Ok(None),
+        Some(Line::Length(samples)) => {
             if airing.is_some() {
                 return Err(Fault::LengthKnown);
             }
             *airing = Some(Episode::new(heap, samples)?);
-            Ok(Outcome::Began(samples))
+            Ok(Some(Outcome::Began(samples)))
         }
-        Line::Work(step) => match airing {
-            Some(episode) => Ok(Outcome::Worked(step, episode.work(heap, step)?)),
-            None => Err(Fault::LengthUnknown),
-        },
+        Some(Line::Work(step)) => {
+            let episode = airing.as_mut().ok_or(Fault::LengthUnknown)?;
+            Ok(Some(Outcome::Worked(step, episode.work(heap, step)?)))
+        }
     }
 }

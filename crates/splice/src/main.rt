@@ -20,10 +20,11 @@ fn main(rt: HostRuntime) -> io::Result<()> {
 
 fn run(rt: &HostRuntime) -> io::Result<()> {
     let mut airing = None;
-    let mut number: u64 = 0;
-    for line in BufReader::new(rt.alloc(), rt.stdin())?.lines(rt.alloc()) {
-        number = number.saturating_add(1);
-        tell_line(rt, number, line, &mut airing)?;
+    for (index, line) in BufReader::new(rt.alloc(), rt.stdin())?
+        .lines(rt.alloc())
+        .enumerate()
+    {
+        tell_line(rt, index + 1, line, &mut airing)?;
     }
     match airing {
         Some(episode) => lift_all(rt, episode),
@@ -33,21 +34,21 @@ fn run(rt: &HostRuntime) -> io::Result<()> {
 
 fn tell_line(
     rt: &HostRuntime,
-    number: u64,
+    number: usize,
     line: io::Result<String>,
     airing: &mut Option<Episode>,
 ) -> io::Result<()> {
     let text = match line {
         Ok(text) => text,
-        Err(e) => match e.kind() {
-            ErrorKind::InvalidData => return println!(rt; "line {number}: {}", Fault::NotText),
-            _ => return Err(e),
-        },
+        Err(e) if e.kind() == ErrorKind::InvalidData => {
+            return println!(rt; "line {number}: {}", Fault::NotText);
+        }
+        Err(e) => return Err(e),
     };
     match work_line(rt.alloc(), text.as_str(), airing) {
-        Ok(Outcome::Nothing) => Ok(()),
-        Ok(Outcome::Began(samples)) => println!(rt; "episode of {samples} samples"),
-        Ok(Outcome::Worked(step, report)) => println!(rt; "line {number}: {step}: {report}"),
+        Ok(None) => Ok(()),
+        Ok(Some(Outcome::Began(samples))) => println!(rt; "episode of {samples} samples"),
+        Ok(Some(Outcome::Worked(step, report))) => println!(rt; "line {number}: {step}: {report}"),
         Err(fault) => println!(rt; "line {number}: {fault}"),
     }
 }
@@ -65,11 +66,10 @@ fn lift_all(rt: &HostRuntime, mut episode: Episode) -> io::Result<()> {
             Err(fault) => println!(rt; "{step}: {fault}")?,
         }
     }
-    let advert = episode.advert();
-    let samples = episode.samples();
-    if episode.as_began() {
-        println!(rt; "the mask is as it began: {advert} of {samples} samples are advert")
-    } else {
-        println!(rt; "the mask is not as it began: {advert} of {samples} samples are advert")
-    }
+    let how = if episode.as_began() { "as" } else { "not as" };
+    println!(rt;
+        "the mask is {how} it began: {} of {} samples are advert",
+        episode.advert(),
+        episode.samples()
+    )
 }

@@ -1,83 +1,80 @@
 // Reading a line: an episode's length, or a step that lays or lifts an advert.
-ghost use Rattle.std.specs.Option.{option_map};
-ghost use Rattle.std.specs.Prelude.{IfErr};
-ghost use Rattle.splice.specs.Steps.{Number, LengthRead, StepRead, WordsRead, Misread, Within};
+ghost use Rattle.std.specs.Prelude.{IfErr, Some};
+ghost use Rattle.splice.specs.Steps.{word, CallRead, Number, StepRead, text_of, WordsRead, Misread, Within};
 
 use crate::fault::{Fault, Form};
 use std::fmt;
+use std::str::FromStr;
 
-#[derive(Clone, Copy)]
+#[derive(Clone, Copy, Debug, PartialEq, Eq)]
 pub enum Call {
     Lay,
     Lift,
 }
 
 // A call on the samples from `first` to `last`, both included.
-#[derive(Clone, Copy)]
+#[derive(Clone, Copy, Debug, PartialEq, Eq)]
 pub struct Step {
     pub call: Call,
     pub first: usize,
     pub last: usize,
 }
 
-#[derive(Clone, Copy)]
+#[derive(Clone, Copy, Debug, PartialEq, Eq)]
 pub enum Line {
-    // A blank line or a comment.
-    Nothing,
     Length(usize),
     Work(Step),
 }
 
-// What a line says, or that it cannot be read.
-pub fn read_line(text: &str) -> Result<Line, Fault<'_>>
+// What a line says, and nothing where it is blank or a comment; or that it cannot be read.
+pub fn read_line(text: &str) -> Result<Option<Line>, Fault<'_>>
     ensures { IfErr result Misread }
 {
     let text = text.trim();
     if text.is_empty() || text.starts_with('#') {
-        return Ok(Line::Nothing);
+        return Ok(None);
     }
     let mut words = text.split_whitespace();
-    let (line, form) = read_words(words.next(), words.next(), words.next(), words.next());
-    line.ok_or(Fault::Unreadable { text, form })
+    let line = read_words(words.next(), words.next(), words.next(), words.next()).map_err(
+        |form| Fault::Unreadable { text, form },
+    )?;
+    Ok(Some(line))
 }
 
-// What a line's words say, and how the line was to be written. A fourth word is one too many.
+// What a line's words say, or how the line was to be written. A fourth word is one too many.
 fn read_words(
     call: Option<&str>,
     first: Option<&str>,
     last: Option<&str>,
     more: Option<&str>,
-) -> (Option<Line>, Form)
-    ensures { WordsRead (option_map (λ x. x.now) call.entry) (option_map (λ x. x.now) first.entry) (option_map (λ x. x.now) last.entry) (option_map (λ x. x.now) more.entry) result.0 }
+) -> Result<Line, Form>
+    ensures { WordsRead (text_of call.entry) (text_of first.entry) (text_of last.entry)
+        (text_of more.entry) result }
 {
-    match (call, first, last, more) {
-        (Some("episode"), Some(length), None, None) => (read_length(length), Form::Length),
-        (Some("lay"), Some(first), Some(last), None) => (
-            read_step(Call::Lay, first, last),
-            Form::Step,
-        ),
-        (Some("lift"), Some(first), Some(last), None) => (
-            read_step(Call::Lift, first, last),
-            Form::Step,
-        ),
-        (Some("episode"), ..) => (None, Form::Length),
-        (Some("lay" | "lift"), ..) => (None, Form::Step),
-        _ => (None, Form::Any),
+    let call = call.ok_or(Form::Any)?;
+    if call == "episode" {
+        return match (first, last, more) {
+            (Some(length), None, None) => read_number(length).map(Line::Length).ok_or(Form::Length),
+            _ => Err(Form::Length),
+        };
+    }
+    let call = call.parse()?;
+    match (first, last, more) {
+        (Some(first), Some(last), None) => {
+            read_step(call, first, last)
+                .map(Line::Work)
+                .ok_or(Form::Step)
+        }
+        _ => Err(Form::Step),
     }
 }
 
-fn read_length(length: &str) -> Option<Line>
-    ensures { LengthRead length.now result }
-{
-    Some(Line::Length(read_number(length)?))
-}
-
-fn read_step(call: Call, first: &str, last: &str) -> Option<Line>
+fn read_step(call: Call, first: &str, last: &str) -> Option<Step>
     ensures { StepRead call first.now last.now result }
 {
     let first = read_number(first)?;
     let last = read_number(last)?;
-    Some(Line::Work(Step { call, first, last }))
+    Some(Step { call, first, last })
 }
 
 // A decimal number of 64 bits.
@@ -103,7 +100,24 @@ impl Step {
     }
 }
 
+impl FromStr for Call {
+    type Err = Form;
+
+    ghost from_str_gives = { CallRead };
+
+    fn from_str(text: &str) -> Result<Call, Form> {
+        match text {
+            "lay" => Ok(Call::Lay),
+            "lift" => Ok(Call::Lift),
+            _ => Err(Form::Any),
+        }
+    }
+}
+
+// A call is written by the word that it is read from.
 impl fmt::Display for Call {
+    ghost output = { λ call. Some (word call) };
+
     fn fmt<W: fmt::Write>(&self, f: &mut fmt::Formatter<W>) -> fmt::Result {
         match *self {
             Call::Lay => f.write_str("lay"),

@@ -1,27 +1,28 @@
 // Drawing an episode as a strip one line wide.
 ghost use Rattle.std.specs.Prelude.{◌≡◌, ◌+◌, ◌-◌, ◌*◌, ◌/◌, ◌%◌, ◌<◌, ◌≤◌, length};
 ghost use Rattle.words.specs.Bits.{holds, tally};
-ghost use Rattle.splice.specs.Strips.{columns_of, edge, width, mark_of, Tiled, Drawn};
+ghost use Rattle.splice.specs.Strips.{columns_of, edge, mark_of, column_mark, Tiled, Drawn};
 
 use crate::episode::Episode;
+use arrayvec::ArrayVec;
 use std::fmt;
-use words::{WORD_BITS, Word, count_ones};
+use words::{WORD_BITS, Word, count_ones, word_below};
 
 const WIDEST: usize = 64;
 
 // How much of a column is advert.
-#[derive(Clone, Copy)]
+#[derive(Clone, Copy, Debug, Default, PartialEq, Eq)]
 pub enum Mark {
+    #[default]
     Clear,
     Part,
     Full,
 }
 
-// A mark for each column, in order; the marks past the columns are not drawn.
-#[derive(Clone, Copy)]
+// A mark for each column, in order.
+#[derive(Clone, Debug, Drop, PartialEq, Eq)]
 pub struct Strip {
-    columns: usize,
-    marks: [Mark; WIDEST],
+    marks: ArrayVec<Mark, WIDEST>,
 }
 
 impl Strip {
@@ -31,35 +32,51 @@ impl Strip {
         ensures tiled { Tiled episode.now.samples }
     {
         let words = episode.words();
-        let samples = episode.samples();
-        let columns = samples.min(WIDEST);
-        let mut marks = [Mark::Clear; WIDEST];
-        for column in 0..columns {
-            marks[column] = column_mark(words, samples, columns, column);
+        let columns = Columns {
+            samples: episode.samples(),
+        };
+        let mut marks = ArrayVec::new();
+        for column in 0..columns.count() {
+            marks.push(columns.mark(words, column));
         }
-        Strip { columns, marks }
+        Strip { marks }
     }
 }
 
-// The mark of a column, by the samples from its start up to the next one's.
-fn column_mark(words: &[Word], samples: usize, columns: usize, column: usize) -> Mark
-    requires within { samples ≤ 64 * length words.now }
-    requires columns { (columns ≡ columns_of samples) × (column < columns) }
-    ensures { result ≡ mark_of (tally (holds words.now) (edge samples column) (width samples column)) (width samples column) }
-{
-    let start = column_start(column, columns, samples);
-    let end = column_start(column + 1, columns, samples);
-    Mark::new(advert_between(words, start, end), end - start)
+// The columns in which an episode of so many samples is drawn.
+#[derive(Clone, Copy, Debug, PartialEq, Eq)]
+struct Columns {
+    samples: usize,
 }
 
-// The sample at which a column starts. The product can pass 64 bits.
-fn column_start(column: usize, columns: usize, samples: usize) -> usize
-    requires some { 0 < columns }
-    requires within { column ≤ columns }
-    ensures value { result ≡ column * samples / columns }
-    ensures bound { result ≤ samples }
-{
-    (column as u128 * samples as u128 / columns as u128) as usize
+impl Columns {
+    fn count(self) -> usize
+        ensures { result ≡ columns_of self.samples }
+    {
+        self.samples.min(WIDEST)
+    }
+
+    // The sample at which a column starts, and past the last column the episode's end.
+    // The product can pass 64 bits, and std has no `From` between usize and u128.
+    fn start(self, column: usize) -> usize
+        requires some { 0 < self.samples }
+        requires within { column ≤ columns_of self.samples }
+        ensures value { result ≡ edge self.samples column }
+        ensures bound { result ≤ self.samples }
+    {
+        (column as u128 * self.samples as u128 / self.count() as u128) as usize
+    }
+
+    // The mark of a column, by the samples from its start up to the next one's.
+    fn mark(self, words: &[Word], column: usize) -> Mark
+        requires reaches { self.samples ≤ 64 * length words.now }
+        requires within { column < columns_of self.samples }
+        ensures { result ≡ column_mark self.samples words.now column }
+    {
+        let start = self.start(column);
+        let end = self.start(column + 1);
+        Mark::new(advert_between(words, start, end), end - start)
+    }
 }
 
 impl Mark {
@@ -92,11 +109,9 @@ fn advert_between(words: &[Word], start: usize, end: usize) -> usize
 fn advert_before(words: &[Word], sample: usize) -> usize
     ensures { result ≡ tally (holds words.now) (64 * (sample / 64)) (sample % 64) }
 {
-    match words.get(sample / WORD_BITS) {
-        Some(word) => {
-            let below = (1 << (sample % WORD_BITS)) - 1;
-            (word & below).count_ones() as usize
-        }
+    let index = sample / WORD_BITS;
+    match words.get(index) {
+        Some(word) => count_ones(&[word & word_below(sample, index)]),
         None => 0,
     }
 }
@@ -114,7 +129,7 @@ impl fmt::Display for Mark {
 impl fmt::Display for Strip {
     fn fmt<W: fmt::Write>(&self, f: &mut fmt::Formatter<W>) -> fmt::Result {
         f.write_str("|")?;
-        for mark in self.marks.iter().take(self.columns) {
+        for mark in &self.marks {
             write!(f, "{mark}")?;
         }
         f.write_str("|")

@@ -3,4 +3,4 @@ use Rattle.splice.proofs.episode.put_samples.Given as goal
 
 -- the row has the samples before this one
 abbrev pub invariant-loop-sample : goal.invariant-loop-sample
-invariant-loop-sample l = SoFar l.first l.row l.sample
+invariant-loop-sample l = SoFar l.fn.step.first l.row l.sample
