@@ -3,12 +3,14 @@ ghost use Rattle.std.specs.Prelude.{◌≡◌, ℕ, ◌+◌, ◌^◌, ◌<◌, n
 ghost use Rattle.index.specs.Indices.{Found, Moved};
 ghost use Rattle.std.proofs.Common.{rules};
 
+// Its calls have the names of the Rust crate's trait, so `new` and `index` stand for TryFrom and From.
 pub trait Idx: Copy {
     // The first number that has no value.
     const LIMIT: usize;
 
     ghost LIMIT: { ℕ };
-    // The number that a value stands for.
+    // The number that a value stands for. Clauses cite it with LIMIT; no record holds both, since the language ties LIMIT
+    // to the constant by its name.
     ghost place: { Self → ℕ };
 
     // Whether every index below `domain` has a value.

@@ -2,28 +2,35 @@
 ghost use Rattle.std.specs.Prelude.{◌≡◌, List, ◌∷◌};
 ghost use Rattle.index.specs.Refusals.{returned, listed};
 
-use std::error::Error;
-use std::fmt;
+use thiserror::Error;
 
 // A refused call changes no mask, no memory and no collector.
 // Each cause has one number, from 1 in the order below, and stands for nothing else.
-#[derive(Clone, Copy, PartialEq, Eq, Debug)]
+#[derive(Clone, Copy, PartialEq, Eq, Debug, Error)]
 pub enum Refusal {
     // 1: the index, or column, is at or past the domain.
+    #[error("refusal 1: index {0} is at or past the domain")]
     Index(usize),
     // 2: the domains of the two masks differ, own first.
+    #[error("refusal 2: the domains differ, {0} and {1}")]
     Domains(usize, usize),
     // 3: the range ends at or past the domain, is unbounded on domain 0, or starts past 2^64 - 1.
+    #[error("refusal 3: the range reaches past the domain")]
     Range,
     // 4: too few words or records were handed over at creation.
+    #[error("refusal 4: too little memory was handed over")]
     Memory,
     // 5: the mask cannot hold the result.
+    #[error("refusal 5: the mask cannot hold the result")]
     Holding,
     // 6: the index type's limit is below the domain.
+    #[error("refusal 6: the index type's limit is below the domain")]
     Limit,
     // 7: the row is at or past the rows.
+    #[error("refusal 7: row {0} is at or past the rows")]
     Row(usize),
     // 8: too few free places for the results.
+    #[error("refusal 8: too few free places for the results")]
     Places,
 }
 
@@ -54,23 +61,3 @@ impl Refusal {
         }
     }
 }
-
-impl fmt::Display for Refusal {
-    fn fmt<W: fmt::Write>(&self, f: &mut fmt::Formatter<W>) -> fmt::Result {
-        match *self {
-            Refusal::Index(index) => write!(f, "refusal 1: index {index} is at or past the domain"),
-            Refusal::Domains(own, other) => write!(
-                f,
-                "refusal 2: the domains differ, {own} and {other}"
-            ),
-            Refusal::Range => f.write_str("refusal 3: the range reaches past the domain"),
-            Refusal::Memory => f.write_str("refusal 4: too little memory was handed over"),
-            Refusal::Holding => f.write_str("refusal 5: the mask cannot hold the result"),
-            Refusal::Limit => f.write_str("refusal 6: the index type's limit is below the domain"),
-            Refusal::Row(row) => write!(f, "refusal 7: row {row} is at or past the rows"),
-            Refusal::Places => f.write_str("refusal 8: too few free places for the results"),
-        }
-    }
-}
-
-impl Error for Refusal {}

@@ -4,8 +4,7 @@ ghost use Rattle.index.specs.Slots.{number, slot_index, Numbered};
 ghost use Rattle.std.proofs.Common.{rules};
 
 use crate::idx::Idx;
-use std::error::Error;
-use std::fmt;
+use thiserror::Error;
 
 // The eight places of a break, in the order in which they are heard.
 #[derive(Clone, Copy, PartialEq, Eq, Debug)]
@@ -23,7 +22,8 @@ pub enum Place {
 const PLACES: usize = 8;
 
 // A number that no place of a break has.
-#[derive(Clone, Copy, PartialEq, Eq, Debug)]
+#[derive(Clone, Copy, PartialEq, Eq, Debug, Error)]
+#[error("no place of a break has the number {0}")]
 pub struct NoPlace(pub usize);
 
 // An enum of places keeps every slot in range without an invariant, so slots can lie in any slice.
@@ -34,7 +34,7 @@ pub struct Slot {
 }
 
 impl Place {
-    // The place's number, from 0.
+    // The place's number, from 0, which the cast of an enum without fields gives.
     pub fn number(self) -> usize
         ensures { result ≡ number self }
     {
@@ -61,14 +61,6 @@ impl TryFrom<usize> for Place {
         }
     }
 }
-
-impl fmt::Display for NoPlace {
-    fn fmt<W: fmt::Write>(&self, f: &mut fmt::Formatter<W>) -> fmt::Result {
-        write!(f, "no place of a break has the number {}", self.0)
-    }
-}
-
-impl Error for NoPlace {}
 
 impl Idx for Slot {
     const LIMIT: usize = 524_288;

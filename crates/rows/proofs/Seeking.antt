@@ -1,7 +1,8 @@
 -- The lowest set bit of a row at or after an index.
-use Rattle.std.proofs.Common.{◌≡◌, ℕ, ◌+◌, ◌-◌, ◌*◌, ◌/◌, ◌^◌, ◌<◌, ◌≤◌, Bool, true, false, not, ◌&&◌, ltb, List, length, get_or, sym, refl, ap, ◌∙◌, inl, inr, arith}
+use Rattle.std.proofs.Common.{◌≡◌, ℕ, ◌+◌, ◌-◌, ◌*◌, ◌/◌, ◌^◌, ◌<◌, ◌≤◌, true, false, not, ◌&&◌, ltb, List, length, get_or, sym, ap, ◌∙◌, inl, inr, arith}
 use lib.Bits.{bit_and}
 use lib.Pow.{pow-lt}
+use Rattle.std.proofs.Math.Bool.{and-true}
 use Rattle.std.proofs.lemmas.Bool.{cases_lt, and_parts, not-true, ltb-false, le-ltb}
 use Rattle.words.specs.Bits.{bit, holds, Low}
 use Rattle.words.proofs.Bitwise.{bit-bit_and, bit_not, bit_ones, bit_none}
@@ -14,10 +15,6 @@ bit_from w m k hm hk =
     let small : 2 ^ m - 1 < 2 ^ 64 = omega arith in
     bit-bit_and w (2 ^ 64 - 1 - (2 ^ m - 1)) k ∙ ap (λ x. bit w k && x) (bit_not (2 ^ m - 1) k small hk ∙ ap not (bit_ones m k))
 
-both_true : (x : Bool) → (x && true) ≡ x
-both_true true = refl
-both_true false = refl
-
 -- the bits of word j, by their index in the row
 pub at_word : (ws : List ℕ) (j i : ℕ) → 64 * j ≤ i → i < 64 * j + 64 → holds ws i ≡ bit (get_or ws j 0) (i - 64 * j)
 at_word ws j i a b = let e : 64 * j + (i - 64 * j) ≡ i = omega arith in sym (ap (holds ws) e) ∙ holds_word ws j (i - 64 * j) (omega arith)
@@ -27,7 +24,7 @@ module _ (ws : List ℕ) (from j m v : ℕ) (at : from ≡ 64 * j + m) (few : m 
   clear_at : (i : ℕ) → from ≤ i → i < 64 * j + 64 → bit v (i - 64 * j) ≡ false → holds ws i ≡ false
   clear_at i a b z =
       let k : i - 64 * j < 64 = omega arith in
-      at_word ws j i (omega arith) b ∙ sym (cut (i - 64 * j) k ∙ ap (λ x. bit (get_or ws j 0) (i - 64 * j) && not x) (le-ltb (i - 64 * j) m (omega arith)) ∙ both_true (bit (get_or ws j 0) (i - 64 * j))) ∙ z
+      at_word ws j i (omega arith) b ∙ sym (cut (i - 64 * j) k ∙ ap (λ x. bit (get_or ws j 0) (i - 64 * j) && not x) (le-ltb (i - 64 * j) m (omega arith)) ∙ and-true (bit (get_or ws j 0) (i - 64 * j))) ∙ z
 
   pub first_none : v ≡ 0 → (i : ℕ) → from ≤ i → i < 64 * (j + 1) → holds ws i ≡ false
   first_none e i a b = clear_at i a (omega arith) (ap (λ x. bit x (i - 64 * j)) e ∙ bit_none (i - 64 * j))

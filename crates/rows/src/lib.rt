@@ -1,5 +1,6 @@
 // Work on rows of words over a domain: what the mask kinds are made of.
 // These calls are inner: the sets above see to it that an index lies in the row and a row reaches its domain.
+// They take plain slices with the domain beside them, since memory is handed over and a row may be a part of it.
 #![tactic(auto)]
 
 ghost use Rattle.std.specs.Prelude.{◌≡◌, ℕ, ◌+◌, ◌*◌, ◌/◌, ◌^◌, ◌<◌, ◌≤◌, Bool, true, false, not, ◌++◌, length, drop, replicate, if◌then◌else◌, vec_len};
@@ -9,8 +10,8 @@ ghost use Rattle.words.specs.Rows.{Rewritten, put};
 ghost use Rattle.words.specs.Tables.{look};
 
 use words::{
-    Operator, WORD_BITS, Word, clear_excess_bits_in_final_word, count_ones, min_bit, num_words,
-    turned, update_words, word_below, word_index_and_mask, write,
+    Operator, WORD_BITS, Word, clear_excess_bits_in_final_word, min_bit, num_words, turned,
+    update_words, word_below, word_index_and_mask, write,
 };
 
 // Whether the index's bit is set.
@@ -23,7 +24,7 @@ pub fn has_bit(words: &[Word], index: usize) -> bool
     words[word_index] & mask != 0
 }
 
-// Writes the index's bit, and answers whether that turned it.
+// Writes the index's bit, and answers whether that turned it: `write`, for a caller who knows that the index lies in the row.
 pub fn write_bit(words: &mut [Word], index: usize, on: bool) -> bool
     requires { index / 64 < length words.old }
     ensures row { Rewritten (put words.old index on) words.old words.new }
@@ -50,18 +51,23 @@ pub fn fill_row(own: &mut [Word], domain: usize, on: bool) -> (usize, usize)
     ensures { Becomes (λ _. on) domain own.old own.new result }
 {
     let row = &mut own[0..num_words(domain)];
-    let members = count_ones(row);
+    let fill = if on { Word::MAX } else { 0 };
+    let mut members = 0;
+    for word in row.iter_mut() {
+        // A cast, since a usize has no `From<u32>`.
+        members += word.count_ones() as usize;
+        *word = fill;
+    }
+    clear_excess_bits_in_final_word(domain, row);
     if on {
-        row.fill(Word::MAX);
-        clear_excess_bits_in_final_word(domain, row);
         (domain - members, 0)
     } else {
-        row.fill(0);
         (0, members)
     }
 }
 
 // Combines the row with another, over `domain` bits, and answers how many came and how many went.
+// Only this call asks that the words fit 64 bits: of a word that it leaves unread a proof does not know that.
 pub fn combine_row<O: Operator>(
     op: &O,
     own: &mut [Word],
@@ -71,7 +77,8 @@ pub fn combine_row<O: Operator>(
     requires row { IsRow domain own.old }
     requires fit { Fit domain own.old }
     requires other_enough { words_for domain ≤ length other.now }
-    ensures { Becomes (λ i. look (O.table op.now) (holds own.old i) (holds other.now i)) domain own.old own.new result }
+    ensures { Becomes (λ i. look (O.table op.now) (holds own.old i) (holds other.now i))
+        domain own.old own.new result }
 {
     let whole = domain / WORD_BITS;
     let (entered, left) = update_words(&mut own[0..whole], &other[0..whole], op);
@@ -97,9 +104,9 @@ pub fn next_set(words: &[Word], from: usize) -> Option<usize>
     if let Some(bit) = min_bit(first) {
         return Some(WORD_BITS * start + bit);
     }
-    let later = &words[start + 1..];
-    let k = later.iter().position(|word| *word != 0)?;
-    Some(WORD_BITS * (start + 1 + k) + min_bit(later[k])?)
+    let mut later = words.iter().enumerate().skip(start + 1);
+    let (k, word) = later.find(|(_, word)| **word != 0)?;
+    Some(WORD_BITS * k + min_bit(*word)?)
 }
 
 // Clears the first `n` words.

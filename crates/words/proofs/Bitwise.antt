@@ -153,3 +153,8 @@ least w h = elim (cases_eq w 0) [
   | inl e ↦ rw (eq-eqb w 0 e) e
   | inr ne ↦ rw (ne_eqb w 0 ne) (trailing_low w (omega arith) h)
 ]
+
+-- words of ones, of none, and of the lowest ones
+pub ruleset even_bits = (bit_of_max, bit_none, bit_of_ones)
+
+pub ruleset highest_bits = (bit_highest, bit_higher, bit_none)

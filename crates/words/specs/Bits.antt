@@ -1,5 +1,6 @@
 -- Bits of a word and of a row of words. Index i is bit i mod 64 of word i div 64, and bit 0 is the lowest.
 --   bit         bit k of a number
+--   HasBits     bit k of a word is f k, for each of the 64
 --   holds       the bit of a row at an index; past the row's end it is 0
 --   words_for   how many words n bits take
 --   tally       how many of n indices from a on pass a test
@@ -11,6 +12,9 @@ use Rattle.std.specs.Prelude.{◌≡◌, ℕ, zero, suc, ◌+◌, ◌*◌, ◌/�
 
 unfoldable pub bit : ℕ → ℕ → Bool
 bit w k = w / 2 ^ k % 2 == 1
+
+abbrev pub HasBits : ℕ → (ℕ → Bool) → Type 0
+HasBits w f = (k : ℕ) → k < 64 → bit w k ≡ f k
 
 unfoldable pub holds : List ℕ → ℕ → Bool
 holds ws i = bit (slice_index ws (i / 64)) (i % 64)

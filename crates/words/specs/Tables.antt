@@ -3,9 +3,9 @@
 --   Applied        every bit of a result is the table's for the same bit of both words, and depends on nothing else
 --   or_table, and_table, second_table, subtract_table, union_not_table   the tables that masks are combined by
 --   complemented   the table of a layer that complements the operand's bit and hands both on
-use Rattle.std.specs.Prelude.{◌≡◌, ℕ, ◌<◌, Bool, true, false}
+use Rattle.std.specs.Prelude.{ℕ, Bool, true, false}
 use Rattle.words.specs.declared.table.Table.{Table}
-use Rattle.words.specs.Bits.{bit}
+use Rattle.words.specs.Bits.{bit, HasBits}
 
 abbrev pub look : Table → Bool → Bool → Bool
 look t false false = t.neither
@@ -14,7 +14,7 @@ look t true false = t.own_only
 look t true true = t.both
 
 abbrev pub Applied : Table → ℕ → ℕ → ℕ → Type 0
-Applied t own operand result = (k : ℕ) → k < 64 → bit result k ≡ look t (bit own k) (bit operand k)
+Applied t own operand result = HasBits result (λ k. look t (bit own k) (bit operand k))
 
 abbrev pub or_table : Table
 or_table = record { neither = false; operand_only = true; own_only = true; both = true }

@@ -1,6 +1,6 @@
 // Words and their bits. Counts of bits are u32 in std, and usize has no From<u32>, so they are cast.
 ghost use Rattle.std.specs.Prelude.{◌≡◌, ℕ, ◌+◌, ◌*◌, ◌/◌, ◌%◌, ◌^◌, ◌<◌, nat_lt};
-ghost use Rattle.words.specs.Bits.{bit, words_for, tally, set_bits, Highest, Least};
+ghost use Rattle.words.specs.Bits.{HasBits, bit, words_for, tally, set_bits, Highest, Least};
 ghost use Rattle.words.specs.Rows.{enters};
 
 use crate::{WORD_BITS, Word};
@@ -23,7 +23,7 @@ pub fn word_index_and_mask<T: Idx>(elem: T) -> (usize, Word)
 }
 
 // The highest set bit, or nothing where no bit is set.
-#[tactic(auto, using(crate::proofs::Bitwise::bit_highest, crate::proofs::Bitwise::bit_higher, crate::proofs::Bitwise::bit_none))]
+#[tactic(auto, using(crate::proofs::Bitwise::highest_bits))]
 pub fn max_bit(word: Word) -> Option<usize>
     ensures { Highest word result }
 {
@@ -40,9 +40,9 @@ pub fn min_bit(word: Word) -> Option<usize>
 }
 
 // The lowest `count` bits, or all where there are no more.
-#[tactic(auto, using(crate::proofs::Bitwise::bit_of_ones, crate::proofs::Bitwise::bit_of_max))]
+#[tactic(auto, using(crate::proofs::Bitwise::even_bits))]
 fn low_bits(count: usize) -> Word
-    ensures { (b : ℕ) → b < 64 → bit result b ≡ nat_lt b count }
+    ensures { HasBits result (λ b. nat_lt b count) }
 {
     if count < WORD_BITS {
         (1 << count) - 1
@@ -53,7 +53,7 @@ fn low_bits(count: usize) -> Word
 
 // The bits of word `k` of a row that stand below a domain.
 pub fn word_below(domain_size: usize, k: usize) -> Word
-    ensures { (b : ℕ) → b < 64 → bit result b ≡ nat_lt (64 * k + b) domain_size }
+    ensures { HasBits result (λ b. nat_lt (64 * k + b) domain_size) }
 {
     low_bits(domain_size.saturating_sub(k.saturating_mul(WORD_BITS)))
 }

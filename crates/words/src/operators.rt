@@ -1,6 +1,6 @@
 // Operators on words. Each is known by its table alone: bit k of a result is the table's bit for bit k of both words.
 ghost use Rattle.std.specs.Prelude.{◌≡◌, ℕ, ◌<◌, not};
-ghost use Rattle.words.specs.Bits.{bit};
+ghost use Rattle.words.specs.Bits.{HasBits};
 ghost use Rattle.words.specs.declared.table.Table.{Table as Four};
 ghost use Rattle.words.specs.Tables.{Applied, or_table, and_table, second_table, complemented};
 
@@ -59,9 +59,9 @@ impl Operator for Second {
 }
 
 // Every bit set where `on`, none otherwise.
-#[tactic(auto, using(crate::proofs::Bitwise::bit_of_max, crate::proofs::Bitwise::bit_none))]
+#[tactic(auto, using(crate::proofs::Bitwise::even_bits))]
 fn spread(on: bool) -> Word
-    ensures { (k : ℕ) → k < 64 → bit result k ≡ on }
+    ensures { HasBits result (λ _. on) }
 {
     if on { Word::MAX } else { 0 }
 }

@@ -18,12 +18,14 @@ pub fn write<T: Idx>(words: &mut [Word], value: T, on: bool) -> Result<bool, Ref
     if word_index >= words.len() {
         return Err(Refusal::Index(value.index()));
     }
+    // By index: of what `get_mut` lends, a proof knows nothing afterwards.
     let word = words[word_index];
     let new_word = if on { word | mask } else { word & !mask };
     words[word_index] = new_word;
     Ok(new_word != word)
 }
 
+// The two ways by the names that the Rust crate has.
 // Sets the index's bit, and answers whether it was clear. An index past the row is refused.
 pub fn insert<T: Idx>(words: &mut [Word], value: T) -> Result<bool, Refusal>
     ensures { Put true (T.place value) words.old words.new result }
@@ -43,9 +45,10 @@ pub fn clear_excess_bits_in_final_word(domain_size: usize, words: &mut [Word])
     ensures { Rewritten (trimmed (domain_size % 64) words.old) words.old words.new }
 {
     let num_bits_in_final_word = domain_size % WORD_BITS;
-    if num_bits_in_final_word > 0 && words.len() > 0 {
-        let last = words.len() - 1;
-        words[last] &= (1 << num_bits_in_final_word) - 1;
+    if num_bits_in_final_word > 0 {
+        if let Some(last) = words.last_mut() {
+            *last &= (1 << num_bits_in_final_word) - 1;
+        }
     }
 }
 
@@ -58,7 +61,7 @@ pub fn has_changed(report: (usize, usize)) -> bool
 }
 
 // Does the work of `would_modify_words` with no early end, so that it runs over several words at a time.
-// By index: over `lhs.iter().zip(rhs)` it took 1.4 of the time.
+// By index: over `lhs.iter().zip(rhs)` it took 1.4 of the time, and 1.05 is the bar.
 fn group_would_change<O: Operator>(lhs: &[Word], rhs: &[Word], op: &O) -> bool
     ensures { result ≡ modifies (O.table op.now) lhs.now rhs.now }
 {
@@ -104,7 +107,7 @@ pub fn update_words<O: Operator>(lhs: &mut [Word], rhs: &[Word], op: &O) -> (usi
     let mut entered: usize = 0;
     let mut left: usize = 0;
     let shared = lhs.len().min(rhs.len());
-    // By index too: the same is true of what is written through `chunks_mut`.
+    // By index: of a row that is written through `chunks_mut` too a proof knows the length alone.
     for start in (0..shared).step_by(GROUP_WORDS) {
         let end = start + GROUP_WORDS.min(shared - start);
         // A group that stays as it is costs neither a write nor a count.
