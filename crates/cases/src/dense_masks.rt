@@ -8,12 +8,7 @@ use std::test::Fail;
 // A mask over words that hold a pattern, with one word more than it needs.
 fn made(heap: Global, domain: usize, full: bool) -> Result<DenseBitSet, Fail> {
     let words = vec![in heap; 0x5555u64; domain / 64 + 2]?;
-    let result = if full {
-        DenseBitSet::new_filled(domain, words)
-    } else {
-        DenseBitSet::new_empty(domain, words)
-    };
-    result.map_err(|_| Fail::new("too few words"))
+    DenseBitSet::new_uniform(full, domain, words).map_err(|_| Fail::new("too few words"))
 }
 
 #[test]

@@ -11,7 +11,7 @@ use Rattle.mask.specs.Kinds.{Lawful}
 use Rattle.dense.specs.Sets.{dense_kind}
 use Rattle.dense.specs.declared.bit_set.DenseBitSet.{DenseBitSet}
 
-within : (s : DenseBitSet) → words_for s.domain_size ≤ length (vec_items s.words)
+pub within : (s : DenseBitSet) → words_for s.domain_size ≤ length (vec_items s.words)
 within s = omega (arith, s.enough, s.words.ok.0)
 
 -- past the domain no bit of such a row is set
@@ -31,7 +31,7 @@ first s m h =
     }
 
 -- of each set's domain there are an empty and a full one
-spanned : (s : DenseBitSet) (b : Bool) → (e : DenseBitSet) × (dense_kind.domain e ≡ dense_kind.domain s) × (dense_kind.rule e ≡ dense_kind.rule s) × (dense_kind.members e ≡ replicate (dense_kind.domain s) b)
+pub spanned : (s : DenseBitSet) (b : Bool) → (e : DenseBitSet) × (dense_kind.domain e ≡ dense_kind.domain s) × (dense_kind.rule e ≡ dense_kind.rule s) × (dense_kind.members e ≡ replicate (dense_kind.domain s) b)
 spanned s true = (
   first s s.domain_size (omega arith),
   refl,

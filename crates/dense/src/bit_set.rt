@@ -6,7 +6,7 @@ ghost use Rattle.words.specs.Bits.{words_for};
 use words::Word;
 
 // A fixed-size bit set with a bit for each index below `domain_size`, in the first words of a Vec.
-// Words past those are not the set's own and never change.
+// Words past those are not the set's own and never change. How many words there are does not tell the domain.
 #[derive(Drop)]
 pub struct DenseBitSet {
     pub(crate) domain_size: usize,

@@ -15,9 +15,9 @@ use words::{Operator, Or, Word, num_words, would_modify_words};
 impl DenseBitSet {
     // A set with every index of its domain or none, in the first words of the memory.
     pub(crate) fn uniform(
+        full: bool,
         domain_size: usize,
         memory: Vec<Word>,
-        full: bool,
     ) -> Result<DenseBitSet, Refused<Vec<Word>>>
         ensures { Made dense_kind words_backing full domain_size memory result }
     {
@@ -52,6 +52,7 @@ impl DenseBitSet {
     }
 
     // Whether every member of the other set, of the same domain, is one of this set.
+    // Beside `superset`, which a rule of the project keeps thin, since the proof of this is by hand.
     pub(crate) fn covers(&self, other: &DenseBitSet) -> bool
         requires { self.now.domain_size ≡ other.now.domain_size }
         ensures { Tells result (Superset (dense_kind.members self.now)
@@ -81,6 +82,7 @@ impl DenseBitSet {
     }
 
     // Puts every index through the operator with the other set.
+    // Beside the trait's `combine`, which a rule of the project keeps thin, since the proof of this is by hand.
     pub(crate) fn combine_with<O: Operator>(
         &mut self,
         op: &O,

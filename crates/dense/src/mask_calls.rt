@@ -18,14 +18,14 @@ impl Mask for DenseBitSet {
     ghost laws = { lawful };
 
     fn new_empty(domain_size: usize, memory: Vec<Word>) -> Result<DenseBitSet, Refused<Vec<Word>>> {
-        DenseBitSet::uniform(domain_size, memory, false)
+        DenseBitSet::uniform(false, domain_size, memory)
     }
 
     fn new_filled(
         domain_size: usize,
         memory: Vec<Word>,
     ) -> Result<DenseBitSet, Refused<Vec<Word>>> {
-        DenseBitSet::uniform(domain_size, memory, true)
+        DenseBitSet::uniform(true, domain_size, memory)
     }
 
     fn into_memory(self) -> Vec<Word> {
@@ -60,6 +60,7 @@ impl Mask for DenseBitSet {
         self.row().get(k).copied().unwrap_or(0)
     }
 
+    // No PartialEq: the words past the set's own are no part of it.
     fn same_picture(&self, other: &Self) -> bool {
         other.domain_size == self.domain_size && other.row() == self.row()
     }

@@ -13,11 +13,11 @@
 --   Ended      the memory that a mask gives back
 --   Shows      a word's bits are the members from 64 × k on
 --   Tells      a flag says whether something is so
-use Rattle.std.specs.Prelude.{◌≡◌, ℕ, ◌+◌, ◌*◌, ◌<◌, Bool, true, false, List, length, replicate, Ok, Err, Result, slice_index_or}
+use Rattle.std.specs.Prelude.{◌≡◌, ℕ, ◌+◌, ◌*◌, Bool, true, false, List, length, replicate, Ok, Err, Result, slice_index_or}
 use Rattle.index.specs.declared.refusal.Refusal.TheVariants.{Memory}
 use Rattle.mask.specs.declared.kind.Refused.{Refused}
 use Rattle.words.specs.declared.table.Table.{Table}
-use Rattle.words.specs.Bits.{bit}
+use Rattle.words.specs.Bits.{HasBits}
 use Rattle.mask.specs.Machine.{Move, combine, Report, Rule, step}
 
 pub record Kind (M : Type 0) : Type 0 where
@@ -37,7 +37,7 @@ Tells true P = P
 Tells false P = P → ⊥
 
 abbrev pub Shows : List Bool → ℕ → ℕ → Type 0
-Shows bs k word = (b : ℕ) → b < 64 → bit word b ≡ slice_index_or bs (64 * k + b) false
+Shows bs k word = HasBits word (λ b. slice_index_or bs (64 * k + b) false)
 
 module _ {M : Type 0} (kind : Kind M) where
   pub record Lawful : Type 0 where

@@ -7,7 +7,8 @@ use crate::kind::Mask;
 use index::{Idx, Refusal};
 use words::Operator;
 
-// One changing call. An operand is named by its number in a row of masks.
+// One changing call, as data: the law of successions speaks of every list of them, so calls are matched on and are no closures.
+// An operand is named by its number in a row of masks, and not by a reference, so that two lists in a trial can name the same one.
 #[derive(Clone, Copy, PartialEq, Eq, Debug)]
 pub enum Call<T, O> {
     Insert(T),
@@ -25,7 +26,8 @@ pub(crate) fn apply_call<M: Mask, T: Idx, O: Operator>(
 ) -> Result<(usize, usize), Refusal>
     requires { Named (length row.now) call }
     ensures machine { (d : M) →
-        Answered M.kind mask.old (move T.place O.table M.kind (λ j. slice_index_or row.now j d) call)
+        Answered M.kind mask.old
+        (move T.place O.table M.kind (λ j. slice_index_or row.now j d) call)
         result mask.new }
     ensures kept { Kept M.kind mask.old mask.new }
 {
@@ -48,7 +50,7 @@ fn past_call<T: Idx, O: Operator>(call: Call<T, O>, rows: usize) -> Option<usize
     }
 }
 
-// The first operand of a list that is.
+// The first operand of a list that is past the row.
 pub(crate) fn past_row<T: Idx, O: Operator>(calls: &[Call<T, O>], rows: usize) -> Option<usize>
     ensures { result ≡ past_row rows calls.now }
 {

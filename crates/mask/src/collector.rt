@@ -1,7 +1,8 @@
 // Places that are lent out to be filled.
 ghost use Rattle.std.specs.Prelude.{◌≡◌, ◌+◌, ◌<◌, ◌≤◌, length, slice_set};
 
-// The places below `filled` are taken, and the others are free. A count beside the places, since a mask uses no memory but what it is handed.
+// The places below `filled` are taken, and the others are free.
+// A count beside lent places, and no Vec: a mask uses no memory but what it is handed.
 #[derive(Drop)]
 pub struct Collector<'a, T> {
     places: &'a mut [T],

@@ -26,7 +26,8 @@ pub trait Mask: Sized {
     // What memory that is handed over comes to.
     ghost backing: { Backing Self.Memory };
 
-    // An empty mask over the memory handed over.
+    // An empty mask over the memory handed over. Each call of a pair, here and below, is a kind's own: one may empty or
+    // clear in another way than it fills, and a flag in place of two names would be no plainer.
     fn new_empty(domain_size: usize, memory: Self::Memory) -> Result<Self, Refused<Self::Memory>>
         ensures { Made kind backing false domain_size memory result };
 
@@ -57,7 +58,8 @@ pub trait Mask: Sized {
         ensures { result ≡ kind.domain self.now };
 
     fn contains<T: Idx>(&self, elem: T) -> Result<bool, Refusal>
-        ensures { result ≡ contained (kind.domain self.now) (kind.members self.now) (T.place elem) };
+        ensures { result
+            ≡ contained (kind.domain self.now) (kind.members self.now) (T.place elem) };
 
     fn count(&self) -> usize
         ensures { result ≡ count (kind.members self.now) };
@@ -74,6 +76,7 @@ pub trait Mask: Sized {
     fn same_picture(&self, other: &Self) -> bool
         ensures { Tells result (kind.picture self.now ≡ kind.picture other.now) };
 
+    // How many indices entered and how many left, here and below: a pair, by a rule of the project.
     fn insert<T: Idx>(&mut self, elem: T) -> Result<(usize, usize), Refusal>
         ensures { Changed kind self.old (insert (T.place elem)) result self.new };
 
@@ -88,7 +91,8 @@ pub trait Mask: Sized {
 
     // Makes each index a member exactly when the operator's table has 1 for (it was one, it is one of `other`).
     fn combine<O: Operator>(&mut self, op: &O, other: &Self) -> Result<(usize, usize), Refusal>
-        ensures { Changed kind self.old (combining kind (O.table op.now) other.now) result self.new };
+        ensures { Changed kind self.old (combining kind (O.table op.now) other.now)
+            result self.new };
 
     fn is_empty(&self) -> bool
         ensures { result ≡ (count (kind.members self.now) == 0) }
@@ -96,6 +100,7 @@ pub trait Mask: Sized {
         self.count() == 0
     }
 
+    // The names that masks are combined by. They differ in the operator alone, and each is one call of `combine`.
     fn union(&mut self, other: &Self) -> Result<(usize, usize), Refusal>
         ensures { Changed kind self.old (combining kind or_table other.now) result self.new }
     {

@@ -2,7 +2,7 @@
 ghost use Rattle.std.specs.Prelude.{◌≡◌, ℕ, ◌-◌, ◌<◌, ◌≤◌, true, false, length, if◌then◌else◌, Ok, nat_eq};
 ghost use Rattle.mask.specs.Machine.{count};
 ghost use Rattle.mask.specs.Collectors.{held, free, SameLoan, Listed, Put};
-ghost use Rattle.words.specs.Bits.{bit};
+ghost use Rattle.words.specs.Bits.{bit, HasBits};
 
 use crate::collector::Collector;
 use crate::kind::Mask;
@@ -14,12 +14,13 @@ fn without_bit(word: Word, k: usize) -> Word
     requires inside { k < 64 }
     requires set { bit word k ≡ true }
     ensures less { result < word }
-    ensures bits { (b : ℕ) → b < 64 → bit result b ≡ (if nat_eq b k then false else bit word b) }
+    ensures bits { HasBits result (λ b. if nat_eq b k then false else bit word b) }
 {
     word & !(1 << k)
 }
 
 // Puts one value for each member, rising, into the next places, where type and places suffice.
+// A kind answers a word by its number, so there is no slice of words to go over.
 fn put_members<M: Mask, T: Idx>(mask: &M, out: &mut Collector<'_, T>)
     requires covered { M.kind.domain mask.now ≤ T.LIMIT }
     requires room { count (M.kind.members mask.now) ≤ free out.old }
@@ -30,9 +31,8 @@ fn put_members<M: Mask, T: Idx>(mask: &M, out: &mut Collector<'_, T>)
     for k in 0..num_words(mask.domain_size()) {
         let mut rest = mask.member_word(k);
         while let Some(bit) = min_bit(rest) {
-            if let Some(v) = T::new(WORD_BITS * k + bit) {
-                out.push(v);
-            }
+            let value = T::new(WORD_BITS * k + bit).unwrap();
+            out.push(value);
             rest = without_bit(rest, bit);
         }
     }

@@ -60,6 +60,7 @@ impl<A> From<Refused<A>> for NotRun<A> {
 }
 
 // A mask from new, the calls on it, each with its report, and a listing of what is left.
+// What a mask is made of, full or not, n and memory, is handed over once, so no struct is made of the three.
 pub fn run_from_new<M: Mask, T: Idx, O: Operator>(
     full: bool,
     n: usize,

@@ -2,7 +2,7 @@
 ghost use Rattle.std.specs.Prelude.{◌≡◌, ℕ, ◌+◌, ◌*◌, ◌<◌, ◌++◌, None, Ok};
 ghost use Rattle.mask.specs.Kinds.{Tells};
 ghost use Rattle.mask.specs.Trials.{Named, untried_call, untried, bit_after, pattern_trial, Agree, Tried};
-ghost use Rattle.words.specs.Bits.{bit};
+ghost use Rattle.words.specs.Bits.{bit, HasBits};
 
 use crate::calls::Call;
 use crate::kind::Mask;
@@ -43,7 +43,9 @@ fn untried_call<T: Idx, O: Operator>(call: Call<T, O>) -> Option<NotTried>
     }
 }
 
-// Why the first call of two lists, one after the other, that cannot be tried cannot, if there is one.
+// Why two lists cannot be tried, by the first call of the one and then the other that cannot, if there is one.
+// An Option, as the first answer that a search finds; it becomes the error of `trials_agree` alone.
+// Two lists side by side, here and below: a pair of them would be made and taken apart at once.
 fn untried<T: Idx, O: Operator>(xs: &[Call<T, O>], ys: &[Call<T, O>]) -> Option<NotTried>
     ensures { result ≡ untried (xs.now ++ ys.now) }
 {
@@ -53,7 +55,7 @@ fn untried<T: Idx, O: Operator>(xs: &[Call<T, O>], ys: &[Call<T, O>]) -> Option<
 // Bit b of the sixty-four patterns of a round, as a word.
 fn pattern_word(b: usize, round: usize) -> Word
     requires { b < 17 }
-    ensures { (k : ℕ) → k < 64 → bit result k ≡ bit (64 * round + k) b }
+    ensures { HasBits result (λ k. bit (64 * round + k) b) }
 {
     if b < 6 {
         LOW_BITS[b]
@@ -64,12 +66,12 @@ fn pattern_word(b: usize, round: usize) -> Word
     }
 }
 
-// One call on the sixty-four patterns of a round.
+// One call on the sixty-four patterns of a round. A call is read by its index type's places and its operator's tables,
+// which go side by side in clauses: they are of two types, and each varies apart.
 fn trial_step<T: Idx, O: Operator>(call: Call<T, O>, word: Word, round: usize) -> Word
     requires { Named 16 call }
-    ensures { (k : ℕ) → k < 64
-        → bit result k
-        ≡ bit_after T.place O.table (λ j. bit (64 * round + k) (j + 1)) (bit word k) call }
+    ensures { HasBits result
+        (λ k. bit_after T.place O.table (λ j. bit (64 * round + k) (j + 1)) (bit word k) call) }
 {
     match call {
         Call::Insert(_) | Call::Remove(_) => word,
@@ -82,8 +84,7 @@ fn trial_step<T: Idx, O: Operator>(call: Call<T, O>, word: Word, round: usize) -
 // What a list leaves of the sixty-four patterns of a round.
 fn trial_word<T: Idx, O: Operator>(calls: &[Call<T, O>], round: usize) -> Word
     requires { untried calls.now ≡ None }
-    ensures { (k : ℕ) → k < 64
-        → bit result k ≡ pattern_trial T.place O.table (64 * round + k) calls.now }
+    ensures { HasBits result (λ k. pattern_trial T.place O.table (64 * round + k) calls.now) }
 {
     let mut word = pattern_word(0, round);
     for c in calls {
@@ -107,6 +108,7 @@ fn patterns_agree<T: Idx, O: Operator>(xs: &[Call<T, O>], ys: &[Call<T, O>]) -> 
 }
 
 // The same answer says whether the lists leave masks of equal pictures.
+// Beside `trials_agree`, which a rule of the project keeps thin, since the proof of this is by hand.
 fn pictures_agree<M: Mask, T: Idx, O: Operator>(xs: &[Call<T, O>], ys: &[Call<T, O>]) -> bool
     requires { untried (xs.now ++ ys.now) ≡ None }
     ensures { Tried T.place O.table M.kind xs.now ys.now (Ok result) }

@@ -50,7 +50,7 @@ impl AllOrNothing {
     }
 
     // Puts every index through the operator with the other mask. All of them come out alike.
-    // Beside the trait's combine, which a rule of the project keeps thin: this proof has answers.
+    // Beside the trait's combine, which a rule of the project keeps thin, since the proof of this is by hand.
     pub(crate) fn combine_with<O: Operator>(
         &mut self,
         op: &O,

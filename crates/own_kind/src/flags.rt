@@ -5,7 +5,7 @@ ghost use Rattle.words.specs.Tables.{look};
 
 use words::{Operator, Word};
 
-// How many of `n` indices enter where all of them were in or out and then all are in or out.
+// How many of `n` indices enter where all were in or all out before, and all are in or all out after.
 #[tactic(auto, using(crate::proofs::Uniform::uniform_sets))]
 pub(crate) fn entering(n: usize, before: bool, after: bool) -> usize
     ensures { result ≡ gained (replicate n before) (replicate n after) }

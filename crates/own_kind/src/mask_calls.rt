@@ -52,11 +52,7 @@ impl Mask for AllOrNothing {
     // In a full set the number itself is the lowest member from it on.
     #[tactic(auto, using(crate::proofs::Uniform::uniform_sets))]
     fn next_member(&self, from: usize) -> Option<usize> {
-        if self.full && from < self.domain_size {
-            Some(from)
-        } else {
-            None
-        }
+        (self.full && from < self.domain_size).then_some(from)
     }
 
     #[tactic(auto, using(crate::proofs::Uniform::uniform_sets))]
@@ -68,7 +64,7 @@ impl Mask for AllOrNothing {
         }
     }
 
-    // Over no index the flags are not looked at.
+    // No PartialEq derived: over no index the flags are not looked at.
     fn same_picture(&self, other: &Self) -> bool {
         self.domain_size == other.domain_size && (self.domain_size == 0 || self.full == other.full)
     }

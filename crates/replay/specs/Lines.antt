@@ -29,7 +29,9 @@ use Rattle.replay.specs.declared.fault.Fault.{Fault}
 use Rattle.replay.specs.declared.fault.Fault.TheVariants.{Text}
 
 abbrev pub Number : List ℕ → Option ℕ → Type 0
-Number word r = SomeIff r (IsNumeral 10 (without_leading_plus word) × (digits_value 10 (without_leading_plus word) < 2 ^ 64)) (digits_value 10 (without_leading_plus word))
+Number word r = SomeIff r
+    (IsNumeral 10 (without_leading_plus word) × (digits_value 10 (without_leading_plus word) < 2 ^ 64))
+    (digits_value 10 (without_leading_plus word))
 
 abbrev pub digit : Bool → ℕ
 digit b = cond b 49 48

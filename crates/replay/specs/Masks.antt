@@ -44,7 +44,7 @@ abbrev pub flagged : Result Bool Refusal → Result Answer Fault
 flagged (Ok b) = Ok (Flag b)
 flagged (Err e) = Err (Refused e)
 
--- of a list nothing is said: what a collector's places hold is not known once the loan is over
+-- of a list nothing is said: that a Vec holds what a collector put into its places did not prove once the loan is over
 abbrev pub Asked : ℕ → List Bool → Question → Result Answer Fault → Type 0
 Asked n bs (Contains i) r = r ≡ flagged (contained n bs i)
 Asked n bs Empty r = r ≡ Ok (Flag (count bs == 0))

@@ -208,7 +208,7 @@ fn read_bit(byte: u8) -> Option<bool>
     }
 }
 
-// A decimal number of 64 bits.
+// A decimal number of 64 bits. `splice` reads one so too; a crate for one line would be no plainer.
 fn read_number(word: &str) -> Option<usize>
     ensures { Number word.now result }
 {

@@ -27,7 +27,7 @@ impl From<Refusal> for Fault {
     }
 }
 
-// Of memory there are two: `?` meets the one on a Vec and the other on a map, and no impl takes both.
+// Two errors of memory: `?` meets the one on a Vec and the other on a map, and no impl takes both.
 impl From<AllocError> for Fault {
     ghost from_gives = { λ _ f. f ≡ Memory };
 

@@ -19,6 +19,7 @@ use words::{Word, num_words};
 // The words that are handed over behind a mask's own.
 const SPARE: [Word; 2] = [0x0123_4567_89ab_cdef, 0xfedc_ba98_7654_3210];
 
+// No Mask itself: its kinds are made of different memory.
 #[derive(Drop)]
 pub enum AnyMask {
     Dense(DenseBitSet),
@@ -28,18 +29,19 @@ pub enum AnyMask {
 impl AnyMask {
     pub fn new(heap: Global, wanted: NewMask) -> Result<AnyMask, Fault>
         ensures domain { IfOk result (λ m. any_kind.domain m ≡ wanted.domain) }
-        ensures members { IfOk result (λ m. any_kind.members m ≡ replicate wanted.domain wanted.full) }
+        ensures members { IfOk result (λ m.
+            any_kind.members m ≡ replicate wanted.domain wanted.full) }
         ensures refused { IfErr result (λ e. e ≡ Memory) }
     {
         match wanted.kind {
             Kind::Dense => {
                 let memory = words_with_spare(heap, wanted.domain)?;
-                Ok(AnyMask::Dense(make_mask(wanted.domain, memory, wanted.full)?))
+                Ok(AnyMask::Dense(make_mask(wanted.full, wanted.domain, memory)?))
             }
         }
     }
 
-    // Another mask of the same kind, domain and members. It is no Clone, which would be handed no heap.
+    // Another mask of the same kind, domain and members. It is no Clone: a set keeps facts of its words, so none is derived, and spare words are handed over anew.
     pub fn copy(&self, heap: Global) -> Result<AnyMask, Fault>
         ensures domain { IfOk result (λ m. any_kind.domain m ≡ any_kind.domain self.now) }
         ensures members { IfOk result (λ m. any_kind.members m ≡ any_kind.members self.now) }
@@ -109,7 +111,7 @@ impl AnyMask {
         }
     }
 
-    // The mask's picture, read off the memory that it gives back.
+    // The mask's picture, read off the memory that it gives back. An Answer, as it is printed at once.
     pub fn into_picture(self) -> Answer
         ensures { Pictures self result }
     {

@@ -6,7 +6,7 @@ ghost use Rattle.mask.specs.Kinds.{Tells};
 ghost use Rattle.replay.specs.declared.answers.Answer.TheVariants.{Flag};
 ghost use Rattle.replay.specs.Calls.{moved};
 ghost use Rattle.replay.specs.Masks.{picture_of, flagged, Compares};
-ghost use Rattle.replay.specs.Stores.{mask_at, Found, OfMask, OnMask, Makes, Changed, Shown, Answers, lends_mask};
+ghost use Rattle.replay.specs.Stores.{mask_at, Found, OfMasks, OnMask, Makes, Changed, Shown, Covers, SamePicture, Answers, lends_mask};
 
 use crate::answers::Answer;
 use crate::calls::{Call, Change, Combination, NewMask, Request};
@@ -34,7 +34,7 @@ impl Store {
     }
 
     // What a call on the mask of that number answers.
-    // Calls are read from text, and reading may hand out no closure, so they are matched on here and below.
+    // Calls are read from text, and a function may hand out no closure, so they are matched on here and below.
     pub fn answer(&mut self, request: Request) -> Result<Answer, Fault>
         ensures { Answers self.old request.mask result self.new request.call }
     {
@@ -112,14 +112,14 @@ impl Store {
     }
 
     fn superset(&self, number: usize, other: usize) -> Result<Answer, Fault>
-        ensures { OfMask self.now number result (λ m. OfMask self.now other result (λ o. (b : Result Bool Refusal) × Compares m o b × (result ≡ flagged b))) }
+        ensures { OfMasks self.now number other result (Covers result) }
     {
         let flag = self.mask(number)?.superset(self.mask(other)?)?;
         Ok(Answer::Flag(flag))
     }
 
     fn equal(&self, number: usize, other: usize) -> Result<Answer, Fault>
-        ensures { OfMask self.now number result (λ m. OfMask self.now other result (λ o. (b : Bool) × Tells b (picture_of m ≡ picture_of o) × (result ≡ Ok (Flag b)))) }
+        ensures { OfMasks self.now number other result (SamePicture result) }
     {
         let flag = self.mask(number)?.same_picture(self.mask(other)?);
         Ok(Answer::Flag(flag))

@@ -12,8 +12,8 @@ use index::{Idx, Refusal};
 use mask::{Collector, Mask, list};
 use std::alloc::Global;
 
-// A mask with every index of its domain or none.
-pub fn make_mask<M: Mask>(domain_size: usize, memory: M::Memory, full: bool) -> Result<M, Refusal>
+// A mask with every index of its domain or none. Domain and members are told apart, as a kind has them apart.
+pub fn make_mask<M: Mask>(full: bool, domain_size: usize, memory: M::Memory) -> Result<M, Refusal>
     ensures domain { IfOk result (λ m. M.kind.domain m ≡ domain_size) }
     ensures members { IfOk result (λ m. M.kind.members m ≡ replicate domain_size full) }
     ensures short { OnErr result (M.backing.suffices domain_size memory ≡ false) }
@@ -27,7 +27,7 @@ pub fn copy_mask<M: Mask>(mask: &M, memory: M::Memory) -> Result<M, Refusal>
     ensures domain { IfOk result (λ m. M.kind.domain m ≡ M.kind.domain mask.now) }
     ensures members { IfOk result (λ m. M.kind.members m ≡ M.kind.members mask.now) }
 {
-    let mut copy: M = make_mask(mask.domain_size(), memory, false)?;
+    let mut copy: M = make_mask(false, mask.domain_size(), memory)?;
     // Not every kind is Drop, and a closure for the refusal would take the copy from the other arm.
     match copy.clone_from(mask) {
         Ok(_) => Ok(copy),
@@ -38,6 +38,7 @@ pub fn copy_mask<M: Mask>(mask: &M, memory: M::Memory) -> Result<M, Refusal>
     }
 }
 
+// Calls are read from text, and a function may hand out no closure, so they are matched on here and below.
 pub fn change_mask<M: Mask>(mask: &mut M, change: Change) -> Result<(usize, usize), Refusal>
     ensures { Changed M.kind mask.old (moved change) result mask.new }
 {

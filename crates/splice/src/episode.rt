@@ -12,6 +12,8 @@ use std::alloc::{AllocError, Global};
 use std::fmt;
 use words::{And, ComplementOperand, Or, Word, count_ones, insert, num_words, update_words};
 
+// A row of words and no mask, which shows its words only when it ends: strips are worked out from them.
+// No Model, which would hide the facts that the fields keep from those who draw an episode.
 #[derive(Drop)]
 pub struct Episode {
     samples: usize,

@@ -42,6 +42,7 @@ pub fn read_line(text: &str) -> Result<Option<Line>, Fault<'_>>
 }
 
 // What a line's words say, or how the line was to be written. A fourth word is one too many.
+// Four words are no struct: this function alone takes them.
 fn read_words(
     call: Option<&str>,
     first: Option<&str>,
@@ -77,7 +78,7 @@ fn read_step(call: Call, first: &str, last: &str) -> Option<Step>
     Some(Step { call, first, last })
 }
 
-// A decimal number of 64 bits.
+// A decimal number of 64 bits. `replay` reads one so too; a crate for one line would be no plainer.
 fn read_number(word: &str) -> Option<usize>
     ensures { Number word.now result }
 {

@@ -36,6 +36,7 @@ impl Strip {
             samples: episode.samples(),
         };
         let mut marks = ArrayVec::new();
+        // By number, which a mark is worked out from; `collect` could run out of memory.
         for column in 0..columns.count() {
             marks.push(columns.mark(words, column));
         }
@@ -110,6 +111,7 @@ fn advert_before(words: &[Word], sample: usize) -> usize
     ensures { result ≡ tally (holds words.now) (64 * (sample / 64)) (sample % 64) }
 {
     let index = sample / WORD_BITS;
+    // A match: through `map_or` the proof of the missing word did not close.
     match words.get(index) {
         Some(word) => count_ones(&[word & word_below(sample, index)]),
         None => 0,
