@@ -1,5 +1,6 @@
 -- The meaning of a dense set, read off its words.
 --   own_words       the words of a row that hold a domain
+--   pictured        a domain, then the words of a row that hold it
 --   dense_kind      what a dense set means: its domain; a member for each set bit below it; it can hold every member set;
 --                   its picture is the domain and then its own words; the words past those are not its own
 --   words_backing   what handed-over words come to: they suffice where the domain has that many
@@ -16,13 +17,17 @@ use Rattle.dense.specs.declared.bit_set.DenseBitSet.{DenseBitSet}
 abbrev pub own_words : DenseBitSet → List ℕ
 own_words s = take (words_for s.domain_size) (vec_items s.words)
 
+-- a domain, then the words of a row that hold it
+abbrev pub pictured : ℕ → List ℕ → List ℕ
+pictured n words = n ∷ take (words_for n) words
+
 abbrev pub dense_kind : Kind DenseBitSet
 dense_kind =
     record {
       domain = λ s. s.domain_size;
       members = λ s. tab (holds (vec_items s.words)) s.domain_size;
       rule = λ s members. true;
-      picture = λ s. s.domain_size ∷ own_words s;
+      picture = λ s. pictured s.domain_size (vec_items s.words);
       spare = λ s. drop (words_for s.domain_size) (vec_items s.words);
     }
 

@@ -42,7 +42,8 @@ impl DenseBitSet {
             → holds result.now i ≡ slice_index_or (dense_kind.members self.now) i false }
         ensures past { (i : ℕ) → self.now.domain_size ≤ i
             → slice_index_or (dense_kind.members self.now) i false ≡ false }
-        ensures shows { (k : ℕ) → Shows (dense_kind.members self.now) k (slice_index result.now k) }
+        ensures shows { (k : ℕ)
+            → Shows (dense_kind.members self.now) k (slice_index result.now k) }
         ensures count { set_bits result.now % 2 ^ 64 ≡ count (dense_kind.members self.now) }
         ensures lowest { (from : ℕ) (found : Option ℕ)
             → Lowest (holds result.now) from (64 * length result.now) found

@@ -1,6 +1,8 @@
 // A dense set as a mask.
 ghost use Rattle.dense.specs.Laws.{lawful};
-ghost use Rattle.dense.specs.Sets.{dense_kind, words_backing};
+ghost use Rattle.std.specs.Prelude.{◌≡◌};
+ghost use Rattle.dense.specs.Sets.{dense_kind, words_backing, pictured};
+ghost use Rattle.mask.specs.Kinds.{Ended};
 
 use crate::bit_set::DenseBitSet;
 use index::{Idx, Refusal};
@@ -28,7 +30,11 @@ impl Mask for DenseBitSet {
         DenseBitSet::uniform(true, domain_size, memory)
     }
 
-    fn into_memory(self) -> Vec<Word> {
+    // What a set shows can be read off the words that it gives back.
+    fn into_memory(self) -> Vec<Word>
+        ensures ended { Ended dense_kind words_backing self result }
+        ensures picture { pictured self.domain_size result.items ≡ dense_kind.picture self }
+    {
         let DenseBitSet {
             domain_size: _,
             words,

@@ -43,8 +43,8 @@ pub enum Values {
 }
 
 impl Refusal {
-    // The number and the values that this refusal returns. A rule of the project: programs print a refusal
-    // by its number, and an enum with values has no number of its own for each variant.
+    // The number and the values that this refusal returns. A rule of the project gives each cause a number
+    // (docs/REFUSALS.md), and an enum with values has no number of its own for each variant.
     pub fn returned(self) -> (u8, Values)
         ensures value { result.0 ∷ listed result.1 ≡ returned self }
         ensures apart { (other : Refusal) → returned other ≡ returned self → other ≡ self }

@@ -8,7 +8,8 @@ use index::{Idx, Refusal};
 use words::Operator;
 
 // One changing call, as data: the law of successions speaks of every list of them, so calls are matched on and are no closures.
-// An operand is named by its number in a row of masks, and not by a reference, so that two lists in a trial can name the same one.
+// An operand is named by its number in a row of masks, and not by a reference, so that two lists in a trial can name the
+// same one.
 #[derive(Clone, Copy, PartialEq, Eq, Debug)]
 pub enum Call<T, O> {
     Insert(T),

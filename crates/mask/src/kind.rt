@@ -76,7 +76,7 @@ pub trait Mask: Sized {
     fn same_picture(&self, other: &Self) -> bool
         ensures { Tells result (kind.picture self.now ≡ kind.picture other.now) };
 
-    // How many indices entered and how many left, here and below: a pair, by a rule of the project.
+    // How many indices entered and how many left, here and below: a report is the pair (entered, left) throughout.
     fn insert<T: Idx>(&mut self, elem: T) -> Result<(usize, usize), Refusal>
         ensures { Changed kind self.old (insert (T.place elem)) result self.new };
 
@@ -100,7 +100,8 @@ pub trait Mask: Sized {
         self.count() == 0
     }
 
-    // The names that masks are combined by. They differ in the operator alone, and each is one call of `combine`.
+    // The names that masks are combined by, which are public and stay. They differ in the operator alone; the one call
+    // that takes it is `combine`.
     fn union(&mut self, other: &Self) -> Result<(usize, usize), Refusal>
         ensures { Changed kind self.old (combining kind or_table other.now) result self.new }
     {

@@ -76,7 +76,8 @@ pub fn run_from_new<M: Mask, T: Idx, O: Operator>(
     ensures enough { OnOk result (M.backing.suffices n memory ≡ true) }
     ensures spare { IfOk result (λ left. M.kind.spare left.mask ≡ M.backing.spare n memory) }
     // What is true of them, over the reports that they gave.
-    ensures law { IfOk result (λ left. (made : List Report) × Gathered made reports.old reports.new
+    ensures law { IfOk result (λ left. (made : List Report)
+        × Gathered made reports.old reports.new
         × Succession M.kind O.table T.place n (M.backing.rule n memory) full row.now calls.now
         made left.mask) }
     ensures listed { IfOk result (λ left. Listed T.LIMIT T.place n (M.kind.members left.mask)

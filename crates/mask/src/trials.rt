@@ -32,7 +32,7 @@ pub enum NotTried {
     Operand(usize),
 }
 
-// Why a call cannot be tried, if it cannot.
+// Why a call cannot be tried, if it cannot: an Option, as what a search finds. Calls are data, so they are matched on.
 fn untried_call<T: Idx, O: Operator>(call: Call<T, O>) -> Option<NotTried>
     ensures { result ≡ untried_call call }
 {
@@ -43,7 +43,7 @@ fn untried_call<T: Idx, O: Operator>(call: Call<T, O>) -> Option<NotTried>
     }
 }
 
-// Why two lists cannot be tried, by the first call of the one and then the other that cannot, if there is one.
+// Why two lists cannot be tried: what the first call says that cannot, the first list's calls before the second's.
 // An Option, as the first answer that a search finds; it becomes the error of `trials_agree` alone.
 // Two lists side by side, here and below: a pair of them would be made and taken apart at once.
 fn untried<T: Idx, O: Operator>(xs: &[Call<T, O>], ys: &[Call<T, O>]) -> Option<NotTried>
@@ -66,8 +66,8 @@ fn pattern_word(b: usize, round: usize) -> Word
     }
 }
 
-// One call on the sixty-four patterns of a round. A call is read by its index type's places and its operator's tables,
-// which go side by side in clauses: they are of two types, and each varies apart.
+// One call on the sixty-four patterns of a round. Calls are data, so they are matched on. A call is read by its index
+// type's places and its operator's tables, which go side by side in clauses: they are of two types that vary apart.
 fn trial_step<T: Idx, O: Operator>(call: Call<T, O>, word: Word, round: usize) -> Word
     requires { Named 16 call }
     ensures { HasBits result
@@ -118,6 +118,7 @@ fn pictures_agree<M: Mask, T: Idx, O: Operator>(xs: &[Call<T, O>], ys: &[Call<T,
 
 // Tries two lists of clear, insert_all and combine on every pattern of bits,
 // and answers whether they leave masks of equal pictures from every start and with every filling of the operands.
+// What the search for a call that cannot be tried finds is the error.
 pub fn trials_agree<M: Mask, T: Idx, O: Operator>(
     xs: &[Call<T, O>],
     ys: &[Call<T, O>],

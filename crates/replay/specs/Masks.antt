@@ -69,4 +69,11 @@ Pictured n ws (Picture m v) = (m ≡ n) × (vec_items v ≡ take (words_for n) w
 Pictured n ws Spoilt = drop (words_for n) ws ≡ spare_words → ⊥
 
 abbrev pub Pictures : AnyMask → Answer → Type 0
-Pictures m a = (ws : List ℕ) × (drop (words_for (domain_of m)) ws ≡ spare_of m) × Pictured (domain_of m) ws a
+Pictures m Made = ⊥
+Pictures m (Report e l) = ⊥
+Pictures m (Flag b) = ⊥
+Pictures m (Count c) = ⊥
+Pictures m (Found o) = ⊥
+Pictures m (Numbers v) = ⊥
+Pictures m (Picture n v) = ((n ∷ vec_items v) ≡ picture_of m) × (spare_of m ≡ spare_words)
+Pictures m Spoilt = spare_of m ≡ spare_words → ⊥

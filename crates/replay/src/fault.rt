@@ -44,6 +44,7 @@ impl<T: Drop> From<AllocFailed<T>> for Fault {
     }
 }
 
+// By hand: a refusal is printed by its number, where a derive would print its sentence.
 impl fmt::Display for Fault {
     fn fmt<W: fmt::Write>(&self, f: &mut fmt::Formatter<W>) -> fmt::Result {
         match *self {
@@ -54,7 +55,7 @@ impl fmt::Display for Fault {
     }
 }
 
-// The refusal's number, then its values: what it prints of itself is a sentence.
+// The refusal's number, then its values: its own Display prints a sentence, and this program prints numbers.
 fn show_refusal<W: fmt::Write>(refusal: Refusal, f: &mut fmt::Formatter<W>) -> fmt::Result {
     let (number, values) = refusal.returned();
     match values {

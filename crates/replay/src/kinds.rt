@@ -19,7 +19,8 @@ use words::{Word, num_words};
 // The words that are handed over behind a mask's own.
 const SPARE: [Word; 2] = [0x0123_4567_89ab_cdef, 0xfedc_ba98_7654_3210];
 
-// No Mask itself: its kinds are made of different memory.
+// No Mask itself: kinds may be made of different memory, and a Mask has one. Domain and members are told apart in clauses,
+// as a kind has them apart.
 #[derive(Drop)]
 pub enum AnyMask {
     Dense(DenseBitSet),
@@ -41,7 +42,8 @@ impl AnyMask {
         }
     }
 
-    // Another mask of the same kind, domain and members. It is no Clone: a set keeps facts of its words, so none is derived, and spare words are handed over anew.
+    // Another mask of the same kind, domain and members. It is no Clone: a set keeps facts of its words, so none is
+    // derived, and spare words are handed over anew.
     pub fn copy(&self, heap: Global) -> Result<AnyMask, Fault>
         ensures domain { IfOk result (λ m. any_kind.domain m ≡ any_kind.domain self.now) }
         ensures members { IfOk result (λ m. any_kind.members m ≡ any_kind.members self.now) }
@@ -111,7 +113,8 @@ impl AnyMask {
         }
     }
 
-    // The mask's picture, read off the memory that it gives back. An Answer, as it is printed at once.
+    // The mask's picture, read off the memory that it gives back. An Answer, of which two cases can be:
+    // an enum of those two would be printed at once, and is no plainer.
     pub fn into_picture(self) -> Answer
         ensures { Pictures self result }
     {

@@ -28,7 +28,7 @@ pub fn copy_mask<M: Mask>(mask: &M, memory: M::Memory) -> Result<M, Refusal>
     ensures members { IfOk result (λ m. M.kind.members m ≡ M.kind.members mask.now) }
 {
     let mut copy: M = make_mask(false, mask.domain_size(), memory)?;
-    // Not every kind is Drop, and a closure for the refusal would take the copy from the other arm.
+    // The trait does not ask that a kind is Drop, and a closure for the refusal would take the copy from the other arm.
     match copy.clone_from(mask) {
         Ok(_) => Ok(copy),
         Err(refusal) => {

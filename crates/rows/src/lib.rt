@@ -67,7 +67,7 @@ pub fn fill_row(own: &mut [Word], domain: usize, on: bool) -> (usize, usize)
 }
 
 // Combines the row with another, over `domain` bits, and answers how many came and how many went.
-// Only this call asks that the words fit 64 bits: of a word that it leaves unread a proof does not know that.
+// Only this call asks that the words fit 64 bits: a proof knows the size of a word only where the word is read.
 pub fn combine_row<O: Operator>(
     op: &O,
     own: &mut [Word],

@@ -12,7 +12,7 @@ use std::alloc::{AllocError, Global};
 use std::fmt;
 use words::{And, ComplementOperand, Or, Word, count_ones, insert, num_words, update_words};
 
-// A row of words and no mask, which shows its words only when it ends: strips are worked out from them.
+// A row of words and no mask: strips are worked out from its words, and a mask shows its words only when it ends.
 // No Model, which would hide the facts that the fields keep from those who draw an episode.
 #[derive(Drop)]
 pub struct Episode {

@@ -13,7 +13,7 @@ pub enum Outcome {
 }
 
 // Begins the episode or works a step on it, as the line says, and does nothing where the line says nothing.
-// A line that is refused changes nothing.
+// A line that is refused changes nothing. What a line says is data read from text: a closure would be chosen by the same match.
 pub fn work_line<'a>(
     heap: Global,
     text: &'a str,

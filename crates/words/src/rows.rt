@@ -18,7 +18,7 @@ pub fn write<T: Idx>(words: &mut [Word], value: T, on: bool) -> Result<bool, Ref
     if word_index >= words.len() {
         return Err(Refusal::Index(value.index()));
     }
-    // By index: of what `get_mut` lends, a proof knows nothing afterwards.
+    // By index: through `get_mut` the proof did not close, since of what that lends a proof knows nothing afterwards.
     let word = words[word_index];
     let new_word = if on { word | mask } else { word & !mask };
     words[word_index] = new_word;
@@ -61,7 +61,7 @@ pub fn has_changed(report: (usize, usize)) -> bool
 }
 
 // Does the work of `would_modify_words` with no early end, so that it runs over several words at a time.
-// By index: over `lhs.iter().zip(rhs)` it took 1.4 of the time, and 1.05 is the bar.
+// By index: over `lhs.iter().zip(rhs)` it took 1.4 times as long.
 fn group_would_change<O: Operator>(lhs: &[Word], rhs: &[Word], op: &O) -> bool
     ensures { result ≡ modifies (O.table op.now) lhs.now rhs.now }
 {
@@ -81,8 +81,8 @@ pub fn would_modify_words<O: Operator>(lhs: &[Word], rhs: &[Word], op: &O) -> bo
         .any(|(own, operand)| group_would_change(own, operand, op))
 }
 
-// Does the work of `update_words`, whether or not any bit changes.
-// By index: of a row that is written through `iter_mut().zip(rhs)` a proof knows the length alone.
+// Does the work of `update_words` on a group in which some bit changes: one that stays costs neither a write nor a count.
+// By index: through `iter_mut().zip(rhs)` the proof did not close, since a proof then knows the row's length alone.
 fn update_group<O: Operator>(lhs: &mut [Word], rhs: &[Word], op: &O) -> (usize, usize)
     ensures { Updated (O.table op.now) lhs.old rhs.now lhs.new result }
 {
@@ -107,10 +107,9 @@ pub fn update_words<O: Operator>(lhs: &mut [Word], rhs: &[Word], op: &O) -> (usi
     let mut entered: usize = 0;
     let mut left: usize = 0;
     let shared = lhs.len().min(rhs.len());
-    // By index: of a row that is written through `chunks_mut` too a proof knows the length alone.
+    // By index: through `chunks_mut` the proof did not close either, for the same reason.
     for start in (0..shared).step_by(GROUP_WORDS) {
         let end = start + GROUP_WORDS.min(shared - start);
-        // A group that stays as it is costs neither a write nor a count.
         if group_would_change(&lhs[start..end], &rhs[start..end], op) {
             let (came, went) = update_group(&mut lhs[start..end], &rhs[start..end], op);
             entered = entered.saturating_add(came);
