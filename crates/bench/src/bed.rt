@@ -39,7 +39,7 @@ pub struct Bed {
 
 impl Bed {
     // Masks of a million indices, of which so many in a hundred are members.
-    pub fn random(heap: Global, percent: usize) -> Result<Bed> {
+    pub(crate) fn random(heap: Global, percent: usize) -> Result<Bed> {
         let mut random = Random::new(1);
         let start = random_mask(heap, &mut random, percent)?;
         let other = random_mask(heap, &mut random, percent)?;
@@ -55,7 +55,7 @@ impl Bed {
     }
 
     // Masks of an hour with the ten adverts, with no indices to call them with.
-    pub fn adverts(heap: Global) -> Result<Bed> {
+    pub(crate) fn adverts(heap: Global) -> Result<Bed> {
         let start = advert_mask(heap)?;
         Ok(Bed {
             own: empty_mask(heap, HOUR)?,

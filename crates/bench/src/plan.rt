@@ -15,7 +15,7 @@ pub struct Plan {
 
 impl Plan {
     // The plan that the program's arguments ask for.
-    pub fn read(rt: &(impl Env + Alloc)) -> Result<Plan> {
+    pub(crate) fn read(rt: &(impl Env + Alloc)) -> Result<Plan> {
         let mut args = env::args(rt)?.skip(1);
         let rounds = match args.next() {
             Some(word) => word.as_str().parse()?,
@@ -40,7 +40,7 @@ pub struct Runner<'a> {
 impl<'a> Runner<'a> {
     // Runs a workload's rounds, each on a bed that is made ready for it, and prints its name, the sum of its answers, how
     // many members it leaves, the sum of the indices in the places, and the time of the quickest round.
-    pub fn measure<P: Fn(&mut Bed) -> usize, W: Fn(&mut Bed) -> usize>(
+    pub(crate) fn measure<P: Fn(&mut Bed) -> usize, W: Fn(&mut Bed) -> usize>(
         &mut self,
         name: &str,
         prepare: P,

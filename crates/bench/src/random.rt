@@ -7,12 +7,12 @@ pub struct Random {
 }
 
 impl Random {
-    pub fn new(seed: u64) -> Random {
+    pub(crate) fn new(seed: u64) -> Random {
         Random { state: seed }
     }
 
     // A number below `n`, from the upper bits of a linear congruential generator.
-    pub fn below(&mut self, n: usize) -> usize
+    pub(crate) fn below(&mut self, n: usize) -> usize
         requires { 0 < n }
         ensures { result < n }
     {

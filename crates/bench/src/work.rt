@@ -27,7 +27,7 @@ fn weigh_combine(report: Result<(usize, usize), Refusal>) -> usize {
     report.map_or(REFUSED, weigh)
 }
 
-pub fn start(bed: &mut Bed) -> usize
+pub(crate) fn start(bed: &mut Bed) -> usize
     ensures { (report : Result (ℕ × ℕ) Refused)
         × Changed dense_kind bed.old.own (combining dense_kind second_table bed.old.start)
         report bed.new.own }
@@ -35,26 +35,27 @@ pub fn start(bed: &mut Bed) -> usize
     weigh_combine(bed.own.clone_from(&bed.start))
 }
 
-pub fn clear(bed: &mut Bed) -> usize
+pub(crate) fn clear(bed: &mut Bed) -> usize
     ensures { (report : ℕ × ℕ) × Changed dense_kind bed.old.own clear (Ok report) bed.new.own }
 {
     weigh(bed.own.clear())
 }
 
-pub fn insert_all(bed: &mut Bed) -> usize
+pub(crate) fn insert_all(bed: &mut Bed) -> usize
     ensures { (report : ℕ × ℕ) × Changed dense_kind bed.old.own insert_all (Ok report) bed.new.own }
 {
     weigh(bed.own.insert_all())
 }
 
-pub fn insert_random(bed: &mut Bed) -> usize {
+pub(crate) fn insert_random(bed: &mut Bed) -> usize {
     insert_each(&mut bed.own, &bed.random).unwrap_or(REFUSED)
 }
 
-pub fn insert_rising(bed: &mut Bed) -> usize {
+pub(crate) fn insert_rising(bed: &mut Bed) -> usize {
     insert_each(&mut bed.own, &bed.rising).unwrap_or(REFUSED)
 }
 
+// Its own loop, and so for removing: what is timed is the call alone, with none through a closure between.
 fn insert_each(mask: &mut DenseBitSet, indices: &[usize]) -> Result<usize, Refusal> {
     let mut total: usize = 0;
     for index in indices {
@@ -64,11 +65,11 @@ fn insert_each(mask: &mut DenseBitSet, indices: &[usize]) -> Result<usize, Refus
     Ok(total)
 }
 
-pub fn remove_random(bed: &mut Bed) -> usize {
+pub(crate) fn remove_random(bed: &mut Bed) -> usize {
     remove_each(&mut bed.own, &bed.random).unwrap_or(REFUSED)
 }
 
-pub fn remove_rising(bed: &mut Bed) -> usize {
+pub(crate) fn remove_rising(bed: &mut Bed) -> usize {
     remove_each(&mut bed.own, &bed.rising).unwrap_or(REFUSED)
 }
 
@@ -81,11 +82,11 @@ fn remove_each(mask: &mut DenseBitSet, indices: &[usize]) -> Result<usize, Refus
     Ok(total)
 }
 
-pub fn contains_random(bed: &mut Bed) -> usize {
+pub(crate) fn contains_random(bed: &mut Bed) -> usize {
     contains_each(&bed.own, &bed.random).unwrap_or(REFUSED)
 }
 
-pub fn contains_rising(bed: &mut Bed) -> usize {
+pub(crate) fn contains_rising(bed: &mut Bed) -> usize {
     contains_each(&bed.own, &bed.rising).unwrap_or(REFUSED)
 }
 
@@ -97,7 +98,7 @@ fn contains_each(mask: &DenseBitSet, indices: &[usize]) -> Result<usize, Refusal
     Ok(total)
 }
 
-pub fn contains_loose(bed: &mut Bed) -> usize {
+pub(crate) fn contains_loose(bed: &mut Bed) -> usize {
     let mut total: usize = 0;
     for index in &bed.random {
         total = total.wrapping_add(usize::from(
@@ -107,21 +108,21 @@ pub fn contains_loose(bed: &mut Bed) -> usize {
     total
 }
 
-pub fn count(bed: &mut Bed) -> usize
+pub(crate) fn count(bed: &mut Bed) -> usize
     ensures { result ≡ count (dense_kind.members bed.old.own) }
 {
     bed.own.count()
 }
 
-pub fn list_members(bed: &mut Bed) -> usize {
+pub(crate) fn list_members(bed: &mut Bed) -> usize {
     list(&bed.own, &mut Collector::new(&mut bed.places)).unwrap_or(REFUSED)
 }
 
-pub fn superset(bed: &mut Bed) -> usize {
+pub(crate) fn superset(bed: &mut Bed) -> usize {
     bed.own.superset(&bed.start).map_or(REFUSED, usize::from)
 }
 
-pub fn union(bed: &mut Bed) -> usize
+pub(crate) fn union(bed: &mut Bed) -> usize
     ensures { (report : Result (ℕ × ℕ) Refused)
         × Changed dense_kind bed.old.own (combining dense_kind or_table bed.old.other)
         report bed.new.own }
@@ -129,7 +130,7 @@ pub fn union(bed: &mut Bed) -> usize
     weigh_combine(bed.own.union(&bed.other))
 }
 
-pub fn intersect(bed: &mut Bed) -> usize
+pub(crate) fn intersect(bed: &mut Bed) -> usize
     ensures { (report : Result (ℕ × ℕ) Refused)
         × Changed dense_kind bed.old.own (combining dense_kind and_table bed.old.other)
         report bed.new.own }
@@ -137,7 +138,7 @@ pub fn intersect(bed: &mut Bed) -> usize
     weigh_combine(bed.own.intersect(&bed.other))
 }
 
-pub fn subtract(bed: &mut Bed) -> usize
+pub(crate) fn subtract(bed: &mut Bed) -> usize
     ensures { (report : Result (ℕ × ℕ) Refused)
         × Changed dense_kind bed.old.own (combining dense_kind subtract_table bed.old.other)
         report bed.new.own }
@@ -145,7 +146,7 @@ pub fn subtract(bed: &mut Bed) -> usize
     weigh_combine(bed.own.subtract(&bed.other))
 }
 
-pub fn clone_from(bed: &mut Bed) -> usize
+pub(crate) fn clone_from(bed: &mut Bed) -> usize
     ensures { (report : Result (ℕ × ℕ) Refused)
         × Changed dense_kind bed.old.own (combining dense_kind second_table bed.old.other)
         report bed.new.own }
