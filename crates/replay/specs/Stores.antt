@@ -12,7 +12,7 @@
 --   Covers       whether the second mask's members are all the first's, or a refusal
 --   SamePicture  whether two masks have equal pictures
 --   Makes        a new mask is made, or memory is too little and nothing changes
---   Changed      a changing call turns the mask of a number
+--   TurnsAt      a changing call turns the mask of a number
 --   Shown        a mask shows its picture, and one of its domain and members takes its place
 --   Answers      what a call answers and leaves; of a combination nothing is said
 use Rattle.std.specs.Prelude.{◌≡◌, ℕ, Bool, false, List, Some, None, Ok, Err, Option, Result, replicate, slice_index_or}
@@ -90,8 +90,8 @@ module _ (s : Store) (n : ℕ) (r : Result Answer Fault) (t : Store) where
       × (members_of m ≡ replicate wanted.domain wanted.full) × Puts s n m t))
       (λ e. (e ≡ Memory) × Same s t)
 
-  abbrev pub Changed : Move → Type 0
-  Changed call = OnMask s n r t (λ m. (new : AnyMask) × Turns m call r new × Puts s n new t)
+  abbrev pub TurnsAt : Move → Type 0
+  TurnsAt call = OnMask s n r t (λ m. (new : AnyMask) × Turns m call r new × Puts s n new t)
 
   abbrev pub Shown : AnyMask → Type 0
   Shown m = MatchResult r
@@ -101,7 +101,7 @@ module _ (s : Store) (n : ℕ) (r : Result Answer Fault) (t : Store) where
 
   abbrev pub Answers : Call → Type 0
   Answers (Make wanted) = Makes wanted
-  Answers (Change change) = Changed (moved change)
+  Answers (Change change) = TurnsAt (moved change)
   Answers (Combine combination k) = Unit {0}
   Answers Picture = OnMask s n r t Shown
   Answers (Ask question) = (t ≡ s) × OfMask s n r (λ m. Asked (domain_of m) (members_of m) question r)

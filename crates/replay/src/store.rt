@@ -6,7 +6,7 @@ ghost use Rattle.mask.specs.Kinds.{Tells};
 ghost use Rattle.replay.specs.declared.answers.Answer.TheVariants.{Flag};
 ghost use Rattle.replay.specs.Calls.{moved};
 ghost use Rattle.replay.specs.Masks.{picture_of, flagged, Compares};
-ghost use Rattle.replay.specs.Stores.{mask_at, Found, OfMasks, OnMask, Makes, Changed, Shown, Covers, SamePicture, Answers, lends_mask};
+ghost use Rattle.replay.specs.Stores.{mask_at, Found, OfMasks, OnMask, Makes, TurnsAt, Shown, Covers, SamePicture, Answers, lends_mask};
 
 use crate::answers::Answer;
 use crate::calls::{Call, Change, Combination, NewMask, Request};
@@ -78,7 +78,7 @@ impl Store {
     }
 
     fn change(&mut self, number: usize, change: Change) -> Result<Answer, Fault>
-        ensures { Changed self.old number result self.new (moved change) }
+        ensures { TurnsAt self.old number result self.new (moved change) }
     {
         let (entered, left) = self.mask_mut(number)?.change(change)?;
         Ok(Answer::Report(entered, left))
