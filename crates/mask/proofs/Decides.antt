@@ -5,7 +5,7 @@ use Rattle.std.proofs.lemmas.Bool.{eq-eqb, cond-true}
 use Rattle.std.proofs.lemmas.List.{length-replicate, get_or-replicate, ext_get_or}
 use Rattle.words.specs.declared.table.Table.{Table}
 use Rattle.words.specs.Tables.{look}
-use Rattle.mask.specs.Kinds.{Kind, Lawful}
+use Rattle.mask.specs.Kinds.{Kind}
 use Rattle.mask.specs.Machine.{combine, step, settle, run, Rule, Report, through, gained}
 use Rattle.mask.specs.Trials.{Accepted, Plain, bit_after, trial, Agree, move, Leaves, SamePictures, TrialsDecide}
 use Rattle.mask.specs.declared.calls.Call.{Call}
@@ -128,16 +128,22 @@ module _ {T O M : Type 0} (place : T → ℕ) (table : O → Table) (kind : Kind
       let from : List Bool → List Report × List Bool = λ x. run n r x (map (move place table kind fill) cs) in
       record { ok = (s.ok, subst (λ (x : List Bool). Accepted (from x).0) (sym s.is) w.ok); is = ap (λ (x : List Bool). (from x).1) s.is ∙ w.is }
 
--- the theorem, for a kind that keeps the laws
-module _ {T O M : Type 0} (place : T → ℕ) (table : O → Table) (kind : Kind M) (laws : Lawful kind) where
+-- the theorem, for a kind that keeps six of the laws
+module _ {T O M : Type 0} (place : T → ℕ) (table : O → Table) (kind : Kind M)
+    (long : (s : M) → length (kind.members s) ≡ kind.domain s)
+    (empty : (s : M) → kind.rule s (replicate (kind.domain s) false) ≡ true)
+    (full : (s : M) → kind.rule s (replicate (kind.domain s) true) ≡ true)
+    (seen : (a b : M) → kind.picture a ≡ kind.picture b → (kind.domain a ≡ kind.domain b) × (kind.members a ≡ kind.members b))
+    (shown : (a b : M) → kind.domain a ≡ kind.domain b → kind.members a ≡ kind.members b → kind.picture a ≡ kind.picture b)
+    (spans : (s : M) (b : Bool) → (e : M) × (kind.domain e ≡ kind.domain s) × (kind.rule e ≡ kind.rule s) × (kind.members e ≡ replicate (kind.domain s) b)) where
   agree_same : (n : ℕ) (xs ys : List (Call T O)) → Plain xs → Plain ys → Agree place table xs ys → SamePictures place table kind n xs ys
   unfolding Agree
   agree_same n xs ys px py agree fill s t a b fills ds dt st la lb =
-      let longs : (j : ℕ) → length (kind.members (fill j)) ≡ n = λ j. laws.long (fill j) ∙ fills j in
+      let longs : (j : ℕ) → length (kind.members (fill j)) ≡ n = λ j. long (fill j) ∙ fills j in
       let ra : Accepted (run n (kind.rule s) (kind.members s) (map (move place table kind fill) xs)).0 = subst (λ (k : ℕ). Accepted (run k (kind.rule s) (kind.members s) (map (move place table kind fill) xs)).0) ds la.accepted in
       let rb : Accepted (run n (kind.rule t) (kind.members t) (map (move place table kind fill) ys)).0 = subst (λ (k : ℕ). Accepted (run k (kind.rule t) (kind.members t) (map (move place table kind fill) ys)).0) dt lb.accepted in
-      let wa = went place table kind n fill fills longs (kind.rule s) (kind.members s) xs px (laws.long s ∙ ds) ra in
-      let wb = went place table kind n fill fills longs (kind.rule t) (kind.members t) ys py (laws.long t ∙ dt) rb in
+      let wa = went place table kind n fill fills longs (kind.rule s) (kind.members s) xs px (long s ∙ ds) ra in
+      let wb = went place table kind n fill fills longs (kind.rule t) (kind.members t) ys py (long t ∙ dt) rb in
       let ea : kind.members a ≡ (run n (kind.rule s) (kind.members s) (map (move place table kind fill) xs)).1 = la.leaves ∙ ap (λ (k : ℕ). (run k (kind.rule s) (kind.members s) (map (move place table kind fill) xs)).1) ds in
       let eb : kind.members b ≡ (run n (kind.rule t) (kind.members t) (map (move place table kind fill) ys)).1 = lb.leaves ∙ ap (λ (k : ℕ). (run k (kind.rule t) (kind.members t) (map (move place table kind fill) ys)).1) dt in
       let la' : length (kind.members a) ≡ n = ap length ea ∙ wa.long in
@@ -146,31 +152,31 @@ module _ {T O M : Type 0} (place : T → ℕ) (table : O → Table) (kind : Kind
       let h' : i < n = subst (λ (k : ℕ). i < k) la' h in
       ap (λ (x : List Bool). get_or x i false) ea ∙ wa.at i h' ∙ agree (λ j. get_or (kind.members (fill j)) i false) (get_or (kind.members s) i false)
       ∙ ap (λ (x : List Bool). trial place table (λ j. get_or (kind.members (fill j)) i false) (get_or x i false) ys) st ∙ sym (wb.at i h') ∙ sym (ap (λ (x : List Bool). get_or x i false) eb) in
-      laws.shown a b (la.domains ∙ ds ∙ sym (lb.domains ∙ dt)) (ext_get_or false (kind.members a) (kind.members b) (la' ∙ sym lb') places)
+      shown a b (la.domains ∙ ds ∙ sym (lb.domains ∙ dt)) (ext_get_or false (kind.members a) (kind.members b) (la' ∙ sym lb') places)
 
   same_agree : (m : M) → 1 ≤ kind.domain m → (xs ys : List (Call T O)) → Plain xs → Plain ys → SamePictures place table kind (kind.domain m) xs ys → Agree place table xs ys
   unfolding Agree
   same_agree m pos xs ys px py same p b =
       let n : ℕ = kind.domain m in
-      let of : Bool → M = λ x. (laws.spans m x).0 in
-      let admits : (x : Bool) → kind.rule m (replicate n x) ≡ true = λ x. elim x as (λ v. kind.rule m (replicate n v) ≡ true) [ true ↦ laws.full m | false ↦ laws.empty m ] in
+      let of : Bool → M = λ x. (spans m x).0 in
+      let admits : (x : Bool) → kind.rule m (replicate n x) ≡ true = λ x. elim x as (λ v. kind.rule m (replicate n v) ≡ true) [ true ↦ full m | false ↦ empty m ] in
       let fill : ℕ → M = λ j. of (p j) in
-      let fills : (j : ℕ) → kind.domain (fill j) ≡ n = λ j. (laws.spans m (p j)).1 in
-      let uniform : (j : ℕ) → kind.members (fill j) ≡ replicate n (p j) = λ j. (laws.spans m (p j)).3 in
+      let fills : (j : ℕ) → kind.domain (fill j) ≡ n = λ j. (spans m (p j)).1 in
+      let uniform : (j : ℕ) → kind.members (fill j) ≡ replicate n (p j) = λ j. (spans m (p j)).3 in
       let run_of : List (Call T O) → List Report × List Bool = λ cs. run n (kind.rule m) (replicate n b) (map (move place table kind fill) cs) in
       let leaves : (cs : List (Call T O)) → Plain cs → Leaves place table kind fill cs (of b) (of (trial place table p b cs)) = λ cs h.
       let w = remains place table kind n (kind.rule m) admits p fill fills uniform b cs h in
       let from : ℕ → Rule → List Bool → List Report × List Bool = λ k r x. run k r x (map (move place table kind fill) cs) in
       let e : from (kind.domain (of b)) (kind.rule (of b)) (kind.members (of b)) ≡ from n (kind.rule m) (replicate n b) =
-      ap (λ (k : ℕ). from k (kind.rule (of b)) (kind.members (of b))) (laws.spans m b).1 ∙ ap (λ (r : Rule). from n r (kind.members (of b))) (laws.spans m b).2 ∙ ap (λ (x : List Bool). from n (kind.rule m) x) (laws.spans m b).3 in
+      ap (λ (k : ℕ). from k (kind.rule (of b)) (kind.members (of b))) (spans m b).1 ∙ ap (λ (r : Rule). from n r (kind.members (of b))) (spans m b).2 ∙ ap (λ (x : List Bool). from n (kind.rule m) x) (spans m b).3 in
       record {
-        domains = (laws.spans m (trial place table p b cs)).1 ∙ sym (laws.spans m b).1;
-        rules = (laws.spans m (trial place table p b cs)).2 ∙ sym (laws.spans m b).2;
+        domains = (spans m (trial place table p b cs)).1 ∙ sym (spans m b).1;
+        rules = (spans m (trial place table p b cs)).2 ∙ sym (spans m b).2;
         accepted = subst (λ (x : List Report × List Bool). Accepted x.0) (sym e) w.ok;
-        leaves = (laws.spans m (trial place table p b cs)).3 ∙ sym w.is ∙ sym (ap (λ (x : List Report × List Bool). x.1) e);
+        leaves = (spans m (trial place table p b cs)).3 ∙ sym w.is ∙ sym (ap (λ (x : List Report × List Bool). x.1) e);
       } in
-      let pic = same fill (of b) (of b) (of (trial place table p b xs)) (of (trial place table p b ys)) fills (laws.spans m b).1 (laws.spans m b).1 refl (leaves xs px) (leaves ys py) in
-      let mem : replicate n (trial place table p b xs) ≡ replicate n (trial place table p b ys) = sym (laws.spans m (trial place table p b xs)).3 ∙ (laws.seen _ _ pic).1 ∙ (laws.spans m (trial place table p b ys)).3 in
+      let pic = same fill (of b) (of b) (of (trial place table p b xs)) (of (trial place table p b ys)) fills (spans m b).1 (spans m b).1 refl (leaves xs px) (leaves ys py) in
+      let mem : replicate n (trial place table p b xs) ≡ replicate n (trial place table p b ys) = sym (spans m (trial place table p b xs)).3 ∙ (seen _ _ pic).1 ∙ (spans m (trial place table p b ys)).3 in
       sym (get_or-replicate n 0 (trial place table p b xs) false pos) ∙ ap (λ (x : List Bool). get_or x 0 false) mem ∙ get_or-replicate n 0 (trial place table p b ys) false pos
 
   pub trials_decide : (xs ys : List (Call T O)) → TrialsDecide place table kind xs ys

@@ -10,11 +10,12 @@ use Rattle.words.specs.Tables.{look}
 use Rattle.words.specs.declared.table.Table.{Table}
 use Rattle.words.proofs.Bitwise.{bit_zero, bit-suc, same_bits}
 use Rattle.mask.specs.Kinds.{Tells}
-use Rattle.mask.specs.Trials.{Named, Plain, untried_call, untried, first_answer, bit_after, trial, pattern_trial, Agree}
+use Rattle.mask.specs.Trials.{Named, Plain, untried_call, untried, past_row, first_answer, bit_after, trial, pattern_trial, Agree}
 use Rattle.mask.specs.declared.calls.Call.{Call}
 use Rattle.mask.specs.declared.calls.Call.TheVariants.{Insert, Remove, Clear, InsertAll, Combine}
 use Rattle.mask.specs.declared.trials.NotTried.TheVariants.{Operand}
-use Rattle.mask.proofs.Firsts.{none_here, none_at}
+use Rattle.mask.proofs.Firsts.{none_here}
+use Rattle.mask.proofs.Operands.{past_cons, all_named}
 
 -- ---- bits of a number that is written in two parts
 
@@ -119,9 +120,14 @@ module _ {T O : Type 0} where
     go true e p = ltb-true j 16 e
     go false e p = absurd (let z : ◌≡◌ {A = ℕ} 0 1 = cc in omega arith)
 
+  pub tried_row : (cs : List (Call T O)) → untried cs ≡ None → past_row 16 cs ≡ None
+  unfolding first_answer
+  tried_row [] h = refl
+  tried_row (c ∷ cs) h = let t = none_here untried_call c cs h in past_cons 16 c cs (tried_named c t.0) ∙ tried_row cs t.1
+
   -- every call of such a list names an operand that has a pattern
-  pub tried_row : (cs : List (Call T O)) → untried cs ≡ None → (k : ℕ) (c : Call T O) → k < length cs → Named 16 (get_or cs k c)
-  tried_row cs h k c l = tried_named (get_or cs k c) (none_at untried_call cs h k c l)
+  pub tried_each : (cs : List (Call T O)) → untried cs ≡ None → (k : ℕ) (c : Call T O) → k < length cs → Named 16 (get_or cs k c)
+  tried_each cs h = all_named 16 cs (tried_row cs h)
 
   pub tried_plain : (cs : List (Call T O)) → untried cs ≡ None → Plain cs
   unfolding Plain first_answer

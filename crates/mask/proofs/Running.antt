@@ -6,10 +6,10 @@ use Rattle.mask.specs.Collectors.{held, SameLoan, Appended, Gathered}
 use Rattle.mask.specs.Successions.{Ran}
 use Rattle.mask.specs.declared.collector.Collector.{Collector}
 
-appended_none : {X : Type 0} (filled : ℕ) (old : List X) → Appended [] filled old filled old
+pub appended_none : {X : Type 0} (filled : ℕ) (old : List X) → Appended [] filled old filled old
 appended_none filled old = record { counts = omega arith; long = refl; before = refl; holds = refl; behind = refl }
 
-appended_more : {X : Type 0} (items : List X) (start : ℕ) (old : List X) (filled : ℕ) (new : List X) (x : X) → filled < length new → Appended items start old filled new → Appended (items ++ x ∷ []) start old (filled + 1) (set new filled x)
+pub appended_more : {X : Type 0} (items : List X) (start : ℕ) (old : List X) (filled : ℕ) (new : List X) (x : X) → filled < length new → Appended items start old filled new → Appended (items ++ x ∷ []) start old (filled + 1) (set new filled x)
 appended_more items start old filled new x room a =
     let k : ℕ = length items in
     let more : length (items ++ x ∷ []) ≡ k + 1 = length_push items x in

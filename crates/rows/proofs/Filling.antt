@@ -85,7 +85,7 @@ module _ (n : ℕ) (own new : List ℕ) (on : Bool) (fill : ℕ) (row : IsRow n 
 
 -- ---- counting the set bits, word by word
 
-tally_word : (ws : List ℕ) (j : ℕ) → get_or ws j 0 < 2 ^ 64 → tally (holds ws) 0 (64 * (j + 1)) ≡ tally (holds ws) 0 (64 * j) + ones (get_or ws j 0)
+pub tally_word : (ws : List ℕ) (j : ℕ) → get_or ws j 0 < 2 ^ 64 → tally (holds ws) 0 (64 * (j + 1)) ≡ tally (holds ws) 0 (64 * j) + ones (get_or ws j 0)
 tally_word ws j h =
     let e : 64 * (j + 1) ≡ 64 * j + 64 = omega arith in
     ap (tally (holds ws) 0) e ∙ tally_add (holds ws) 0 (64 * j) 64

@@ -1,5 +1,5 @@
 -- A loop that writes a row anew, word by word, and counts the bits that come and go.
-use Rattle.std.proofs.Common.{◌≡◌, ℕ, ◌+◌, ◌*◌, ◌/◌, ◌%◌, ◌^◌, ◌<◌, ◌≤◌, Bool, false, ◌&&◌, ltb, List, length, get_or, set, sym, ap, ◌∙◌, subst, ap₂, inl, inr, zero-add, arith}
+use Rattle.std.proofs.Common.{◌≡◌, ℕ, ◌+◌, ◌*◌, ◌/◌, ◌%◌, ◌^◌, ◌<◌, ◌≤◌, Bool, false, ◌&&◌, ltb, List, length, get_or, set, sym, refl, ap, ◌∙◌, subst, ap₂, inl, inr, zero-add, arith}
 use Rattle.std.proofs.Math.Bool.{and-true}
 use Rattle.std.proofs.lemmas.List.{get_or-set_same, get_or-set_other, length-set}
 use Rattle.std.proofs.lemmas.Bool.{cases_eq, le-ltb, lt-ltb, and_right}
@@ -20,6 +20,10 @@ pub record Done (f : ℕ → Bool) (own cur : List ℕ) (j came went : ℕ) : Ty
   pub fit : (k : ℕ) → k < j → get_or cur k 0 < 2 ^ 64
   pub came_is : came ≡ gain own cur (64 * j)
   pub went_is : went ≡ gain cur own (64 * j)
+
+pub done_none : (f : ℕ → Bool) (own : List ℕ) → Done f own own 0 0 0
+unfolding tally gain
+done_none f own = record { long = refl; bits = λ i h. absurd (omega arith); rest = λ k h. refl; fit = λ k h. absurd (omega arith); came_is = refl; went_is = refl }
 
 -- one word more of a count
 more : (p q r : ℕ → Bool) (j a c : ℕ) → ((i : ℕ) → i < 64 * j → p i ≡ q i) → ((k : ℕ) → k < 64 → p (64 * j + k) ≡ r k) → a ≡ tally q 0 (64 * j) → c ≡ tally r 0 64

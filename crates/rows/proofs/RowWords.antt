@@ -1,5 +1,5 @@
 -- Laws of a row of words.
-use Rattle.std.proofs.Common.{◌≡◌, ℕ, ◌+◌, ◌-◌, ◌*◌, ◌/◌, ◌%◌, ◌^◌, ◌<◌, ◌≤◌, min, Bool, false, cond, not, eqb, ltb, List, ◌∷◌, ◌++◌, map, length, get_or, take, drop, set, replicate, sym, ap, ◌∙◌, ap₂, inl, inr, arith, rules, pow_pos, pow_mono}
+use Rattle.std.proofs.Common.{◌≡◌, ℕ, ◌+◌, ◌-◌, ◌*◌, ◌/◌, ◌%◌, ◌^◌, ◌<◌, ◌≤◌, min, Bool, false, cond, not, eqb, ltb, List, ◌∷◌, ◌++◌, map, length, get_or, take, drop, set, replicate, sym, ap, ◌∙◌, ap₂, inl, inr, arith, rules, lit<, pow_pos, pow_mono}
 use lib.Bits.{bit_and}
 use Rattle.std.specs.List.{range_with_len}
 use Rattle.std.proofs.lemmas.List.FromFn.{length-map-range_with_len, get_or-map-range_with_len}
@@ -28,8 +28,14 @@ unfolding holds
 holds_blank n i xs h = let l : i / 64 < n = omega arith in ap (λ w. bit w (i % 64)) (get_or-blank n (i / 64) xs l) ∙ bit_none (i % 64)
 
 module _ (n : ℕ) (ws xs : List ℕ) (e : ws ≡ replicate (words_for n) 0 ++ xs) where
+  pub blank_fit : Fit n ws
+  blank_fit k h = rw (e, get_or-blank) (lit< tt)
+
   pub blank_clean : Clean n ws
   blank_clean i l h = rw e (holds_blank (words_for n) i xs h)
+
+  pub blank_members : tab (holds ws) n ≡ replicate n false
+  blank_members = sym (tab_is (holds ws) (replicate n false) n (length-replicate n false) (λ i l. get_or-replicate n i false false l ∙ sym (rw e (holds_blank (words_for n) i xs (omega arith)))))
 
 -- ---- a row whose first m bits are set, and no others
 

@@ -13,7 +13,7 @@ pub bit_from : (w m k : ℕ) → m < 64 → k < 64 → bit (bit_and w (2 ^ 64 - 
 bit_from w m k hm hk =
     let top : 2 ^ m < 2 ^ 64 = pow-lt hm in
     let small : 2 ^ m - 1 < 2 ^ 64 = omega arith in
-    bit-bit_and w (2 ^ 64 - 1 - (2 ^ m - 1)) k ∙ ap (λ x. bit w k && x) (bit_not (2 ^ m - 1) k small hk ∙ ap not (bit_ones m k))
+    bit-bit_and w (2 ^ 64 - 1 - (2 ^ m - 1)) k ∙ ap (λ x. bit w k && x) (bit_not 64 (2 ^ m - 1) k small hk ∙ ap not (bit_ones m k))
 
 -- the bits of word j, by their index in the row
 pub at_word : (ws : List ℕ) (j i : ℕ) → 64 * j ≤ i → i < 64 * j + 64 → holds ws i ≡ bit (get_or ws j 0) (i - 64 * j)

@@ -1,18 +1,30 @@
 -- Counts of a row's set bits from one index to another.
-use Rattle.std.proofs.Common.{◌≡◌, ℕ, ◌+◌, ◌-◌, ◌*◌, ◌/◌, ◌%◌, ◌^◌, ◌<◌, ◌≤◌, ◌&&◌, ltb, List, [], ◌∷◌, length, get_or, take, drop, sym, ap, ◌∙◌, ap₂, zero-add, arith}
+use Rattle.std.proofs.Common.{◌≡◌, ℕ, ◌+◌, ◌-◌, ◌*◌, ◌/◌, ◌%◌, ◌^◌, ◌<◌, ◌≤◌, ◌&&◌, ltb, List, [], ◌∷◌, length, get_or, take, drop, sym, ap, ◌∙◌, ap₂, zero-add, arith, pow_pos}
 use lib.Bits.{bit_and}
+use lib.Count.{ones}
+use Rattle.std.proofs.lemmas.Nat.{and_le_r}
 use Rattle.std.proofs.Math.Bool.{and-true, and-false}
 use Rattle.std.proofs.lemmas.Bool.{lt-ltb, le-ltb}
 use Rattle.words.specs.Bits.{bit, holds, tally, set_bits}
-use Rattle.words.proofs.Bitwise.{bit-bit_and}
+use Rattle.words.proofs.Bitwise.{bit-bit_and, bit_ones, ones_tally}
 use Rattle.words.proofs.RowBits.{holds_word, holds_past, holds_part, length_part}
 use Rattle.words.proofs.Tallies.{tally_le, tally_add, tally_same, tally_none, tally_trim}
 
+-- the first k bits of word j
+pub low_count : (ws : List ℕ) (j k w : ℕ) → k < 64 → w ≡ get_or ws j 0 → ones (bit_and w (2 ^ k - 1)) ≡ tally (holds ws) (64 * j) k
+low_count ws j k w l e =
+    let v = bit_and w (2 ^ k - 1) in
+    let small : v < 2 ^ k = omega (arith, and_le_r w (2 ^ k - 1), pow_pos k) in
+    ones_tally k v small
+    ∙ tally_same (bit v) (holds ws) 0 (64 * j) k (λ i h.
+    rw zero-add
+    (bit-bit_and w (2 ^ k - 1) i ∙ ap (λ x. bit w i && x) (bit_ones k i ∙ lt-ltb i k h) ∙ and-true (bit w i) ∙ ap (λ x. bit x i) e ∙ sym (holds_word ws j i (omega arith))))
+
 -- the bits of the word that has index s, below s
-pub low_count : (ws : List ℕ) (s w m : ℕ) → w ≡ get_or ws (s / 64) 0 → ((b : ℕ) → b < 64 → bit m b ≡ ltb (64 * (s / 64) + b) s)
+pub masked_count : (ws : List ℕ) (s w m : ℕ) → w ≡ get_or ws (s / 64) 0 → ((b : ℕ) → b < 64 → bit m b ≡ ltb (64 * (s / 64) + b) s)
     → set_bits (bit_and w m ∷ []) % 2 ^ 64 ≡ tally (holds ws) (64 * (s / 64)) (s % 64)
 unfolding set_bits
-low_count ws s w m is below =
+masked_count ws s w m is below =
     let j : ℕ = s / 64 in
     let k : ℕ = s % 64 in
     let row : List ℕ = bit_and w m ∷ [] in
@@ -28,7 +40,7 @@ pub past_count : (ws : List ℕ) (j k : ℕ) → length ws ≤ j → tally (hold
 past_count ws j k l = tally_none (holds ws) (64 * j) k (λ i h. holds_past ws (64 * j + i) (omega arith))
 
 -- the words from a on, m of them
-part_count : (ws : List ℕ) (a m : ℕ) → a + m ≤ length ws → set_bits (take m (drop a ws)) ≡ tally (holds ws) (64 * a) (64 * m)
+pub part_count : (ws : List ℕ) (a m : ℕ) → a + m ≤ length ws → set_bits (take m (drop a ws)) ≡ tally (holds ws) (64 * a) (64 * m)
 unfolding set_bits
 part_count ws a m h =
     ap (λ x. tally (holds (take m (drop a ws))) 0 (64 * x)) (length_part ws a m h)
@@ -46,7 +58,7 @@ module _ (ws : List ℕ) (s e w before : ℕ) (order : s ≤ e) (within : e ≤ 
   between_fits = omega (arith, whole_is, tally_le (holds ws) (64 * (s / 64)) (64 * (e / 64 - s / 64)), tally_le (holds ws) (64 * (e / 64)) (e % 64))
 
   -- both sides count from the first bit of the start's word to the end
-  between_count : w + before ≡ tally (holds ws) (64 * (s / 64)) (s % 64) + tally (holds ws) s (e - s)
+  pub between_count : w + before ≡ tally (holds ws) (64 * (s / 64)) (s % 64) + tally (holds ws) s (e - s)
   between_count =
       let p = holds ws in
       let a : ℕ = s / 64 in

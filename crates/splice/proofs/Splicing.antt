@@ -16,7 +16,6 @@ use Rattle.splice.specs.declared.steps.Call.TheVariants.{Lay, Lift}
 use Rattle.splice.specs.declared.steps.Step.{Step}
 use Rattle.splice.specs.declared.strip.Strip.{Strip}
 use Rattle.splice.specs.Masks.{between, HasAdvert, after, gained, Combined, Worked}
-use Rattle.splice.specs.Steps.{IsInside}
 use Rattle.splice.specs.Strips.{Drawn}
 
 -- ---- a row with no sample
@@ -82,7 +81,7 @@ module _ (t : Table) (call : Call) (same : (a b : Bool) → look t a b ≡ after
   unfolding left
   went_is = tally_same _ (λ i. enters (holds new i) (holds us i)) 0 0 (shared us vs) (λ i h. ap (λ x. enters x (holds us (0 + i))) (look_new (0 + i))) ∙ ap (tally (λ i. enters (holds new i) (holds us i)) 0) all
 
-  combine_all : (e l : ℕ) → e ≡ capped (entered t us vs) → l ≡ capped (left t us vs) → Combined call us vs new e l
+  pub combine_all : (e l : ℕ) → e ≡ capped (entered t us vs) → l ≡ capped (left t us vs) → Combined call us vs new e l
   combine_all e l he hl = record { long = row.long; bits = new_bits; came = he ∙ ap capped came_is; went = hl ∙ ap capped went_is }
 
 lays : (a b : Bool) → look or_table a b ≡ after Lay a b
@@ -120,7 +119,7 @@ module _ (n : ℕ) (fits : n < 2 ^ 64) where
       let e = tally_trim (holds ws) n (64 * length ws) (omega arith) (λ i l h. ends i l) in
       omega (arith, e, tally_le (holds ws) 0 n)
 
-  gained_all : (old new : List ℕ) (c : ℕ) → length old ≡ words_for n → ((i : ℕ) → n ≤ i → holds old i ≡ false) → ((i : ℕ) → n ≤ i → holds new i ≡ false)
+  pub gained_all : (old new : List ℕ) (c : ℕ) → length old ≡ words_for n → ((i : ℕ) → n ≤ i → holds old i ≡ false) → ((i : ℕ) → n ≤ i → holds new i ≡ false)
       → c ≡ capped (gained (64 * length old) old new) → c ≡ gained n old new
   gained_all old new c long old-ends new-ends e =
       let p = (λ (i : ℕ). enters (holds old i) (holds new i)) in
@@ -134,15 +133,15 @@ no_advert first last n i h l = grind (arith, nat_tests)
 
 -- an advert that ends within the n samples leaves nothing past them
 module _ (step : Step) (n : ℕ) (old advert new : List ℕ) (e l : ℕ) (row : Combined step.call old advert new e l) (put : HasAdvert step advert)
-    (inside : IsInside step n) (ends : (i : ℕ) → n ≤ i → holds old i ≡ false) where
-  worked_ends : (i : ℕ) → n ≤ i → holds new i ≡ false
+    (within : step.last < n) (ends : (i : ℕ) → n ≤ i → holds old i ≡ false) where
+  pub worked_ends : (i : ℕ) → n ≤ i → holds new i ≡ false
   worked_ends i h =
-      row.bits i ∙ ap₂ (after step.call) (ends i h) (put i ∙ no_advert step.first step.last n i inside.within h) ∙ after_none step.call
+      row.bits i ∙ ap₂ (after step.call) (ends i h) (put i ∙ no_advert step.first step.last n i within h) ∙ after_none step.call
 
-  pub worked_all : n < 2 ^ 64 → length old ≡ words_for n → (a : ℕ) (s : Strip) → a ≡ tally (holds new) 0 n → Drawn n new s
+  pub worked_all : step.first ≤ step.last → n < 2 ^ 64 → length old ≡ words_for n → (a : ℕ) (s : Strip) → a ≡ tally (holds new) 0 n → Drawn n new s
       → Worked step n old new (record { entered = e; left = l; advert = a; strip = s })
-  worked_all small long a s count drawn = record {
-    inside = inside;
+  worked_all order small long a s count drawn = record {
+    inside = record { ordered = order; within = within };
     samples = λ i. row.bits i ∙ ap (after step.call (holds old i)) (put i);
     entered = gained_all n small old new e long ends worked_ends row.came;
     left = gained_all n small new old l (row.long ∙ long) worked_ends ends (row.went ∙ ap (λ m. capped (gained (64 * m) new old)) (sym row.long));

@@ -1,12 +1,12 @@
 -- Laws of single bits, `bit w k`, from std's of `bit_at w k`, the bit as a number.
-use Rattle.std.proofs.Common.{◌≡◌, ℕ, zero, suc, ◌+◌, ◌-◌, ◌*◌, ◌/◌, ◌%◌, ◌^◌, ◌<◌, ◌≤◌, min, max, Bool, true, false, not, ◌&&◌, ◌||◌, eqb, ltb, sym, refl, ap, ◌∙◌, ap₂, inl, inr, pow-suc, zero-add, one-add, arith, pow_pos}
+use Rattle.std.proofs.Common.{◌≡◌, ℕ, zero, suc, ◌+◌, ◌-◌, ◌*◌, ◌/◌, ◌%◌, ◌^◌, ◌<◌, ◌≤◌, min, max, Bool, true, false, not, ◌&&◌, ◌||◌, eqb, ltb, ◌⊎◌, sym, refl, ap, ◌∙◌, ap₂, inl, inr, pow-suc, zero-add, one-add, arith, pow_pos}
 use lib.Arith.{lt-one}
 use lib.Bits.{bit_and, bit_or, bit_xor, and_lt, and_le_l, and_le_r, or_add_and, xor_add_and}
 use lib.Pow.{ones_sub-lt}
 use lib.Count.{ones, ones_step, count_trailing_zeros}
-use Rattle.std.specs.Int.{w64, bit_at}
+use Rattle.std.specs.Int.{bit_at}
 use Rattle.std.proofs.lemmas.Nat.{le-div, div_below, one_shl}
-use Rattle.std.proofs.lemmas.Nat.Bits.{bit_at_lowest, bit_at-suc, bit_at-zero, bit_at_and, bit_at_or, bit_at-pow_same, bit_at-pow_other, and_pow as and_pow_at, bit_at_ones, bit_at_ones_above, bit_at_not, bit_at-trailing_zeros, bit_at-lt, same_from_bits_below, bit_at_above}
+use Rattle.std.proofs.lemmas.Nat.Bits.{bit_at_lowest, bit_at-suc, bit_at-zero, bit_at_and, bit_at_or, bit_at-pow_same, bit_at-pow_other, and_pow as and_pow_at, bit_at_ones, bit_at_ones_above, bit_at-lt, same_from_bits_below, bit_at_above}
 use Rattle.std.proofs.lemmas.Bool.Decides.{nat_tests}
 use Rattle.std.proofs.lemmas.Bool.{lt-ltb, le-ltb, eq-eqb, ne_eqb, cases_eq, cases_lt}
 use Rattle.std.specs.Bool.{then_some}
@@ -39,11 +39,15 @@ bit-bit_or a b k = rw (bit_is, bit_is, bit_is, bit_at_or a b k) (digits (bit_at 
     digits : (x y : ℕ) → x < 2 → y < 2 → eqb (max x y) 1 ≡ (eqb x 1 || eqb y 1)
     digits x y h l = grind (arith, nat_tests)
 
-pub bit_not : (w k : ℕ) → w < 2 ^ 64 → k < 64 → bit (2 ^ 64 - 1 - w) k ≡ not (bit w k)
-bit_not w k h l = rw (bit_is, bit_is, bit_at_not w64 w k h l) (digit (bit_at w k) (bit_at-lt w k))
-  where
-    digit : (x : ℕ) → x < 2 → eqb (1 - x) 1 ≡ not (eqb x 1)
-    digit x h = grind (arith, nat_tests)
+-- of a word of any width, while std has it of the machine's widths
+pub bit_not : (m w k : ℕ) → w < 2 ^ m → k < m → bit (2 ^ m - 1 - w) k ≡ not (bit w k)
+bit_not zero w k h l = absurd (omega arith)
+bit_not (suc m) w zero h l =
+    let e : (2 ^ suc m - 1 - w) % 2 ≡ 1 - w % 2 = omega (arith, pow-suc 2 m) in
+    rw (bit_zero, bit_zero, e) (grind (arith, nat_tests))
+bit_not (suc m) w (suc k) h l =
+    let e : (2 ^ suc m - 1 - w) / 2 ≡ 2 ^ m - 1 - w / 2 = omega (arith, pow-suc 2 m) in
+    rw (bit-suc, bit-suc, e) (bit_not m (w / 2) k (omega (arith, pow-suc 2 m)) (omega arith))
 
 -- ---- bits past a number's length, one bit, and a run of ones
 
@@ -99,7 +103,7 @@ pub ones_enters : (a b : ℕ) → a < 2 ^ 64 → b < 2 ^ 64 → ones (bit_and a 
 ones_enters a b ha hb =
     ones_tally 64 (bit_and a (2 ^ 64 - 1 - b)) (and_lt 64 a (2 ^ 64 - 1 - b) ha (ones_sub-lt 64 b))
     ∙ tally_same (bit (bit_and a (2 ^ 64 - 1 - b))) (λ k. enters (bit b k) (bit a k)) 0 0 64 (λ k h.
-    rw zero-add (bit-bit_and a (2 ^ 64 - 1 - b) k ∙ ap (λ x. bit a k && x) (bit_not b k hb h) ∙ bit_and_not (bit a k) (bit b k)))
+    rw zero-add (bit-bit_and a (2 ^ 64 - 1 - b) k ∙ ap (λ x. bit a k && x) (bit_not 64 b k hb h) ∙ bit_and_not (bit a k) (bit b k)))
 
 -- ---- words that gather differences
 
@@ -128,11 +132,29 @@ and_pow w m = rw (and_pow_at w m, bit_is) (digit (bit_at w m) (2 ^ m) (bit_at-lt
 
 -- ---- the lowest set bit
 
-pub trailing_low : (w : ℕ) → 0 < w → w < 2 ^ 64 → (count_trailing_zeros 64 w < 64) × Low w (count_trailing_zeros 64 w)
-trailing_low w p h =
-    let t = bit_at-trailing_zeros w64 w p h in
-    let k = count_trailing_zeros 64 w in
-    (t.0, record { set = bit_is w k ∙ ap (λ x. eqb x 1) t.1; below = λ j l. bit_is w j ∙ ap (λ x. eqb x 1) (t.2 j l) })
+trailing_odd : (k w : ℕ) → w % 2 ≡ 1 → count_trailing_zeros (suc k) w ≡ 0
+unfolding count_trailing_zeros
+trailing_odd k w e = rw e
+
+trailing_even : (k w : ℕ) → w % 2 ≡ 0 → count_trailing_zeros (suc k) w ≡ suc (count_trailing_zeros k (w / 2))
+unfolding count_trailing_zeros
+trailing_even k w e = rw e
+
+even_or_odd : (w : ℕ) → (w % 2 ≡ 0) ⊎ (w % 2 ≡ 1)
+even_or_odd w = search arith
+
+-- of a word of any width, while std has it of the machine's widths
+pub trailing_low : (m w : ℕ) → 0 < w → w < 2 ^ m → (count_trailing_zeros m w < m) × Low w (count_trailing_zeros m w)
+trailing_low zero w p h = absurd (omega (arith, lt-one h))
+trailing_low (suc m) w p h = elim (even_or_odd w) [
+  | inr e ↦ rw (trailing_odd m w e) (omega arith, record { set = rw (bit_zero, e); below = λ j l. absurd (omega arith) })
+  | inl e ↦ (let r = trailing_low m (w / 2) (omega arith) (omega (arith, pow-suc 2 m)) in
+      rw (trailing_even m w e) (omega (arith, r.0), record { set = bit-suc w (count_trailing_zeros m (w / 2)) ∙ r.1.set; below = even_below w m e r.1 }))
+]
+  where
+    even_below : (w m : ℕ) → w % 2 ≡ 0 → Low (w / 2) (count_trailing_zeros m (w / 2)) → (j : ℕ) → j < suc (count_trailing_zeros m (w / 2)) → bit w j ≡ false
+    even_below w m e r zero l = rw (bit_zero, e)
+    even_below w m e r (suc j) l = bit-suc w j ∙ r.below j (omega arith)
 
 -- ---- as the functions of words need it
 
@@ -151,7 +173,7 @@ bit_higher w k j high h = bit_past (suc k) w j (omega (arith, pow-suc 2 k)) (ome
 pub least : (w : ℕ) → w < 2 ^ 64 → Least w (then_some (not (eqb w 0)) (count_trailing_zeros 64 w))
 least w h = elim (cases_eq w 0) [
   | inl e ↦ rw (eq-eqb w 0 e) e
-  | inr ne ↦ rw (ne_eqb w 0 ne) (trailing_low w (omega arith) h)
+  | inr ne ↦ rw (ne_eqb w 0 ne) (trailing_low 64 w (omega arith) h)
 ]
 
 -- words of ones, of none, and of the lowest ones

@@ -32,7 +32,7 @@ pub bit_of_or : (own operand k : ℕ) → bit (bit_or own operand) k ≡ look or
 bit_of_or own operand k = bit-bit_or own operand k ∙ either (bit own k) (bit operand k)
 
 pub look_of_complement : (t : Table) (x : Bool) (w k : ℕ) → w < 2 ^ 64 → k < 64 → look t x (bit (2 ^ 64 - 1 - w) k) ≡ look (complemented t) x (bit w k)
-look_of_complement t x w k h l = ap (look t x) (bit_not w k h l) ∙ turned t x (bit w k)
+look_of_complement t x w k h l = ap (look t x) (bit_not 64 w k h l) ∙ turned t x (bit w k)
 
 through : (t : Table) (x y : Bool) → ((not x && ((not y && t.neither) || (y && t.operand_only))) || (x && ((not y && t.own_only) || (y && t.both)))) ≡ look t x y
 through t true true = refl
@@ -44,6 +44,6 @@ through t false false = or-false (t.neither || false) ∙ or-false t.neither
 pub bit_of_table : (t : Table) (own operand n o w b k : ℕ) → own < 2 ^ 64 → operand < 2 ^ 64 → k < 64 → bit n k ≡ t.neither → bit o k ≡ t.operand_only → bit w k ≡ t.own_only → bit b k ≡ t.both
     → bit (bit_or (bit_and (2 ^ 64 - 1 - own) (bit_or (bit_and (2 ^ 64 - 1 - operand) n) (bit_and operand o))) (bit_and own (bit_or (bit_and (2 ^ 64 - 1 - operand) w) (bit_and operand b)))) k ≡ look t (bit own k) (bit operand k)
 bit_of_table t own operand n o w b k h l k' en eo ew eb =
-    let x = bit_not own k h k' in
-    let y = bit_not operand k l k' in
+    let x = bit_not 64 own k h k' in
+    let y = bit_not 64 operand k l k' in
     simp (bit-bit_or, bit-bit_and, x, y, en, eo, ew, eb) (through t (bit own k) (bit operand k))

@@ -127,15 +127,15 @@ bit_on w m k = bit-bit_or w (2 ^ m) k ∙ ap (λ x. bit w k || x) (bit-pow m k) 
 
 pub bit_off : (w m k : ℕ) → m < 64 → k < 64 → bit (bit_and w (2 ^ 64 - 1 - 2 ^ m)) k ≡ cond (eqb k m) false (bit w k)
 bit_off w m k l h =
-    bit-bit_and w (2 ^ 64 - 1 - 2 ^ m) k ∙ ap (λ x. bit w k && x) (bit_not (2 ^ m) k (pow-lt l) h ∙ ap not (bit-pow m k)) ∙ bit_and_cond (bit w k) (eqb k m)
+    bit-bit_and w (2 ^ 64 - 1 - 2 ^ m) k ∙ ap (λ x. bit w k && x) (bit_not 64 (2 ^ m) k (pow-lt l) h ∙ ap not (bit-pow m k)) ∙ bit_and_cond (bit w k) (eqb k m)
 
 -- ---- the last word trimmed
 
-trimmed_none : (r : ℕ) (ws : List ℕ) (i : ℕ) → r ≡ 0 → trimmed r ws i ≡ holds ws i
+pub trimmed_none : (r : ℕ) (ws : List ℕ) (i : ℕ) → r ≡ 0 → trimmed r ws i ≡ holds ws i
 unfolding trimmed
 trimmed_none r ws i e = ap (λ x. holds ws i && (x || ltb i (64 * (length ws - 1) + r))) (eq-eqb r 0 e) ∙ and-true (holds ws i)
 
-trimmed_past : (r : ℕ) (ws : List ℕ) (i : ℕ) → holds ws i ≡ false → trimmed r ws i ≡ false
+pub trimmed_past : (r : ℕ) (ws : List ℕ) (i : ℕ) → holds ws i ≡ false → trimmed r ws i ≡ false
 unfolding trimmed
 trimmed_past r ws i e = and_left (holds ws i) (eqb r 0 || ltb i (64 * (length ws - 1) + r)) e
 
@@ -159,7 +159,7 @@ module _ (ws : List ℕ) (j r w v : ℕ) (last : j + 1 ≡ length ws) (some : 0 
     ]
   ]
 
-  trim_row : w < 2 ^ 64 → Rewritten (trimmed r ws) ws (set ws j v)
+  pub trim_row : w < 2 ^ 64 → Rewritten (trimmed r ws) ws (set ws j v)
   trim_row fits = record { long = length-set ws j v; bits = trim_bits; fit = set_fit ws j v (omega arith) small; rest = set_rest (trimmed r ws) ws j v (omega arith) small (subst (λ x. x < 2 ^ 64) read fits) trim_bits }
 
 pub trimmed_last : (ws : List ℕ) (r : ℕ) → 0 < length ws → 0 < r → r < 64 → get_or ws (length ws - 1) 0 < 2 ^ 64

@@ -31,7 +31,7 @@ returns-clause-law g c =
     ran_from (map (mv d) calls) made.domain made.rule made.members (c.run_calls.ensures.machine d) in
     let seen : (d : g.row.M.Denot) → (reports, bs) ≡ run n rule start (map (mv d) calls) = λ d.
     collected n rule start (map (mv d) calls) (length calls) bs _ _ (length-map calls (mv d)) (ran d) in
-    let even = run_even n rule start (map (mv mask) calls) (length-replicate n c.args.full) (all_fair g.T.Idx.place g.O.Operator.table g.M.Mask.kind g.met.M.Mask.laws (λ j. get_or c.args.row.now j mask) calls) in
+    let even = run_even n rule start (map (mv mask) calls) (length-replicate n c.args.full) (all_fair g.T.Idx.place g.O.Operator.table g.M.Mask.kind g.met.M.Mask.laws.long (λ j. get_or c.args.row.now j mask) calls) in
     let sums : count bs + total left reports ≡ count start + total entered reports = subst (λ (p : List Report × List Bool). count p.1 + total left p.0 ≡ count start + total entered p.0) (sym (seen mask)) even in
     let from = count-replicate n c.args.full in (
       reports,
@@ -40,6 +40,6 @@ returns-clause-law g c =
         machine = seen;
         kept = (kept.0 ∙ made.domain, kept.1 ∙ made.rule);
         balance = omega (arith, sums, from);
-        trials = trials_decide g.T.Idx.place g.O.Operator.table g.M.Mask.kind g.met.M.Mask.laws;
+        trials = trials_decide g.T.Idx.place g.O.Operator.table g.M.Mask.kind g.met.M.Mask.laws.long g.met.M.Mask.laws.empty g.met.M.Mask.laws.full g.met.M.Mask.laws.seen g.met.M.Mask.laws.shown g.met.M.Mask.laws.spans;
       },
     )

@@ -13,5 +13,5 @@ returns g c =
     let xs = c.args.xs.now in
     let ys = c.args.ys.now in
     let tried = none_both untried_call xs ys c.requires in
-    let decided = trials_decide g.T.Idx.place g.O.Operator.table g.M.Mask.kind g.met.M.Mask.laws xs ys (tried_plain xs tried.0) (tried_plain ys tried.1) in
+    let decided = trials_decide g.T.Idx.place g.O.Operator.table g.M.Mask.kind g.met.M.Mask.laws.long g.met.M.Mask.laws.empty g.met.M.Mask.laws.full g.met.M.Mask.laws.seen g.met.M.Mask.laws.shown g.met.M.Mask.laws.spans xs ys (tried_plain xs tried.0) (tried_plain ys tried.1) in
     (c.requires, c.patterns_agree.ensures, λ m pos. tells_like c.patterns_agree.result (decided m pos).0 (decided m pos).1 c.patterns_agree.ensures)

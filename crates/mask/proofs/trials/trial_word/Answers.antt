@@ -2,12 +2,12 @@
 use Rattle.std.proofs.Common.{◌+◌, ◌*◌, sym, ◌∙◌, subst}
 use Rattle.words.specs.Bits.{bit}
 use Rattle.mask.specs.Trials.{Named}
-use Rattle.mask.proofs.Patterns.{tried_row, trial_more, trial_none}
+use Rattle.mask.proofs.Patterns.{tried_each, trial_more, trial_none}
 use Rattle.mask.proofs.trials.trial_word.Goals as goal
 
 pub trial_step-word-requires : goal.trial_step-word-requires
 trial_step-word-requires g c =
-    subst (Named 16) (sym c.c-item.is) (tried_row c.args.calls.now c.requires c.loop-c.c-index c.c-item.result c.loop-c-test.true)
+    subst (Named 16) (sym c.c-item.is) (tried_each c.args.calls.now c.requires c.loop-c.c-index c.c-item.result c.loop-c-test.true)
 
 pub loop-c-preserved : goal.loop-c-preserved
 loop-c-preserved g c k h =

@@ -17,7 +17,7 @@ returns-clause-ok c =
     record {
       samples = search rules;
       mask = worked_all c.args.step e.samples (vec_items e.mask) (vec_items c.in_ok-advert.advert) (vec_items (with_items e.mask new)) c.combine-entered.result.0 c.combine-entered.result.1 all
-          put c.in_ok-check.ensures e.ends e.small (sym e.mask.ok.0 ∙ e.rows) c.advert.result c.of.result c.advert.ensures c.of.ensures.drawn;
+          put c.in_ok-check.ensures.within e.ends c.in_ok-check.ensures.ordered e.small (sym e.mask.ok.0 ∙ e.rows) c.advert.result c.of.result c.advert.ensures c.of.ensures.drawn;
       began = search rules;
       laid = search rules;
     }
