@@ -1,10 +1,21 @@
 -- Where the columns of a strip start and end.
-use Rattle.std.proofs.Common.{◌≡◌, ℕ, zero, suc, ◌+◌, ◌*◌, ◌/◌, ◌<◌, ◌≤◌, inl, inr, zero-mul, add-one, arith}
+use Rattle.std.proofs.Common.{◌≡◌, ℕ, zero, suc, ◌+◌, ◌*◌, ◌/◌, ◌%◌, ◌<◌, ◌≤◌, sym, ap, ◌∙◌, inl, inr, zero-mul, add-one, arith}
+use Rattle.std.proofs.Math.Nat.{mul-add-div, div-add-mod, mul_assoc, mul_comm, mul-add}
 use native.Mathlib.Nat.{mul-div_cancel_left, zero-div}
 use Rattle.std.proofs.lemmas.Bool.{cases_lt}
 use Rattle.splice.specs.Strips.{columns_of, edge, Tiled}
 
-edge_last : (n : ℕ) → edge n (columns_of n) ≡ n
+-- whole columns and what is left over, shared out apart
+module _ (j n c : ℕ) (some : 0 < c) where
+  parts : c * (j * (n / c)) + j * (n % c) ≡ j * n
+  parts =
+      ap (λ x. x + j * (n % c)) (sym (mul_assoc c j (n / c)) ∙ ap (λ x. x * (n / c)) (mul_comm c j) ∙ mul_assoc j c (n / c))
+      ∙ sym (mul-add j (c * (n / c)) (n % c)) ∙ ap (λ x. j * x) (div-add-mod n c)
+
+  pub shared_out : j * (n / c) + j * (n % c) / c ≡ j * n / c
+  shared_out = sym (mul-add-div some (j * (n / c)) (j * (n % c))) ∙ ap (λ x. x / c) parts
+
+pub edge_last : (n : ℕ) → edge n (columns_of n) ≡ n
 edge_last n = elim (cases_lt 0 n) [
   | inl some ↦ (let pos : 0 < columns_of n = omega arith in mul-div_cancel_left n pos)
   | inr none ↦ (let z : n ≡ 0 = omega arith in rw z)

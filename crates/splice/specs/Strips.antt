@@ -6,8 +6,7 @@
 --   mark_of      the mark of a column by how many of its samples are advert
 --   column_mark  the mark of column j of n samples, by which of them a row of words has
 --   Drawn        a strip shows which of n samples a row of words has
-use Rattle.std.specs.Prelude.{◌≡◌, ℕ, ◌+◌, ◌-◌, ◌*◌, ◌/◌, ◌<◌, ◌≤◌, min, if◌then◌else◌, List, ◌==◌, slice_index_or}
-use Rattle.arrayvec.specs.ArrayVec.{array_vec_len}
+use Rattle.std.specs.Prelude.{◌≡◌, ℕ, ◌+◌, ◌-◌, ◌*◌, ◌/◌, ◌<◌, ◌≤◌, min, if◌then◌else◌, List, ◌==◌, None, Some, slice_index_or}
 use Rattle.words.specs.Bits.{holds, tally}
 use Rattle.splice.specs.declared.strip.Mark.{Mark}
 use Rattle.splice.specs.declared.strip.Mark.TheVariants.{Clear, Part, Full}
@@ -33,5 +32,5 @@ abbrev pub column_mark : ℕ → List ℕ → ℕ → Mark
 column_mark n ws j = mark_of (tally (holds ws) (edge n j) (width n j)) (width n j)
 
 pub record Drawn (n : ℕ) (ws : List ℕ) (s : Strip) : Type 0 where
-  pub long : array_vec_len s.marks ≡ columns_of n
-  pub marks : (j : ℕ) → j < columns_of n → slice_index_or s.marks.items j Clear ≡ column_mark n ws j
+  pub marks : (j : ℕ) → j < columns_of n → slice_index_or s.marks j None ≡ Some (column_mark n ws j)
+  pub long : (j : ℕ) → columns_of n ≤ j → slice_index_or s.marks j None ≡ None

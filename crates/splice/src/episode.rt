@@ -29,7 +29,7 @@ pub struct Episode {
 }
 
 // What a step did to the mask.
-#[derive(Clone, Debug, Drop, PartialEq, Eq)]
+#[derive(Clone, Copy, Debug, PartialEq, Eq)]
 pub struct Report {
     pub entered: usize,
     pub left: usize,

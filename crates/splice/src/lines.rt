@@ -6,7 +6,7 @@ use crate::fault::Fault;
 use crate::steps::{Line, Step, read_line};
 use std::alloc::Global;
 
-#[derive(Clone, Debug, Drop, PartialEq, Eq)]
+#[derive(Clone, Copy, Debug, PartialEq, Eq)]
 pub enum Outcome {
     Began(usize),
     Worked(Step, Report),

@@ -4,7 +4,6 @@ ghost use Rattle.words.specs.Bits.{holds, tally};
 ghost use Rattle.splice.specs.Strips.{columns_of, edge, mark_of, column_mark, Tiled, Drawn};
 
 use crate::episode::Episode;
-use arrayvec::ArrayVec;
 use std::fmt;
 use words::{WORD_BITS, Word, count_ones, word_below};
 
@@ -19,10 +18,10 @@ pub enum Mark {
     Full,
 }
 
-// A mark for each column, in order.
-#[derive(Clone, Debug, Drop, PartialEq, Eq)]
+// A mark for each column, in order, and none behind them. An array, since a strip is copied, and neither a Vec nor an ArrayVec is.
+#[derive(Clone, Copy, Debug, PartialEq, Eq)]
 pub struct Strip {
-    marks: ArrayVec<Mark, WIDEST>,
+    marks: [Option<Mark>; WIDEST],
 }
 
 impl Strip {
@@ -35,10 +34,10 @@ impl Strip {
         let columns = Columns {
             samples: episode.samples(),
         };
-        let mut marks = ArrayVec::new();
+        let mut marks = [None; WIDEST];
         // By number, which a mark is worked out from; `collect` could run out of memory.
         for column in 0..columns.count() {
-            marks.push(columns.mark(words, column));
+            marks[column] = Some(columns.mark(words, column));
         }
         Strip { marks }
     }
@@ -57,15 +56,16 @@ impl Columns {
         self.samples.min(WIDEST)
     }
 
-    // The sample at which a column starts, and past the last column the episode's end.
-    // The product can pass 64 bits, and std has no `From` between usize and u128.
+    // The sample at which a column starts, and past the last column the episode's end. What every column has and what is
+    // left over are shared out apart, since the product of column and samples can pass 64 bits.
     fn start(self, column: usize) -> usize
         requires some { 0 < self.samples }
         requires within { column ≤ columns_of self.samples }
         ensures value { result ≡ edge self.samples column }
         ensures bound { result ≤ self.samples }
     {
-        (column as u128 * self.samples as u128 / self.count() as u128) as usize
+        let count = self.count();
+        column * (self.samples / count) + column * (self.samples % count) / count
     }
 
     // The mark of a column, by the samples from its start up to the next one's.
@@ -131,7 +131,7 @@ impl fmt::Display for Mark {
 impl fmt::Display for Strip {
     fn fmt<W: fmt::Write>(&self, f: &mut fmt::Formatter<W>) -> fmt::Result {
         f.write_str("|")?;
-        for mark in &self.marks {
+        for mark in self.marks.iter().flatten() {
             write!(f, "{mark}")?;
         }
         f.write_str("|")
