@@ -65,7 +65,7 @@ Pictured n ws (Flag b) = ⊥
 Pictured n ws (Count c) = ⊥
 Pictured n ws (Found o) = ⊥
 Pictured n ws (Numbers v) = ⊥
-Pictured n ws (Picture m v) = (m ≡ n) × (vec_items v ≡ take (words_for n) ws) × (drop (words_for n) ws ≡ spare_words)
+Pictured n ws (Picture v) = (vec_items v ≡ n ∷ take (words_for n) ws) × (drop (words_for n) ws ≡ spare_words)
 Pictured n ws Spoilt = drop (words_for n) ws ≡ spare_words → ⊥
 
 abbrev pub Pictures : AnyMask → Answer → Type 0
@@ -75,5 +75,5 @@ Pictures m (Flag b) = ⊥
 Pictures m (Count c) = ⊥
 Pictures m (Found o) = ⊥
 Pictures m (Numbers v) = ⊥
-Pictures m (Picture n v) = ((n ∷ vec_items v) ≡ picture_of m) × (spare_of m ≡ spare_words)
+Pictures m (Picture v) = (vec_items v ≡ picture_of m) × (spare_of m ≡ spare_words)
 Pictures m Spoilt = spare_of m ≡ spare_words → ⊥

@@ -12,8 +12,8 @@ pub enum Answer {
     // The index that was found, if there is one.
     Found(Option<usize>),
     Numbers(Vec<usize>),
-    // A mask's domain, and the words that it takes.
-    Picture(usize, Vec<Word>),
+    // A mask's domain, and then the words that it takes.
+    Picture(Vec<Word>),
     // The words behind the mask's own are not what they were.
     Spoilt,
 }
@@ -27,22 +27,21 @@ impl fmt::Display for Answer {
             Answer::Count(count) => write!(f, "{count}"),
             Answer::Found(Some(index)) => write!(f, "{index}"),
             Answer::Found(None) => f.write_str("none"),
-            Answer::Numbers(numbers) => match numbers.split_first() {
-                Some((first, rest)) => show_numbers(first, rest, f),
-                None => f.write_str("none"),
-            },
-            Answer::Picture(domain, words) => show_numbers(domain, words, f),
+            Answer::Numbers(numbers) => show_numbers(numbers, f),
+            Answer::Picture(numbers) => show_numbers(numbers, f),
             Answer::Spoilt => f.write_str("spoilt"),
         }
     }
 }
 
-// A number, then the others, each after a space.
+// Each number after the first follows a space.
 fn show_numbers<N: fmt::Display, W: fmt::Write>(
-    first: &usize,
-    rest: &[N],
+    numbers: &[N],
     f: &mut fmt::Formatter<W>,
 ) -> fmt::Result {
+    let Some((first, rest)) = numbers.split_first() else {
+        return f.write_str("none");
+    };
     write!(f, "{first}")?;
     for number in rest {
         write!(f, " {number}")?;

@@ -1,5 +1,5 @@
 // Masks of every kind as one type.
-ghost use Rattle.std.specs.Prelude.{◌≡◌, ◌≤◌, Bool, false, ◌++◌, length, replicate, IfErr, IfOk, vec_len, slice_index_or};
+ghost use Rattle.std.specs.Prelude.{◌≡◌, ◌<◌, ◌≤◌, Bool, false, ◌∷◌, ◌++◌, length, take, replicate, IfErr, IfOk, vec_items, vec_len, slice_index_or};
 ghost use Rattle.mask.specs.Kinds.{Changed, combining, Tells};
 ghost use Rattle.replay.specs.Calls.{moved, table_of};
 ghost use Rattle.replay.specs.Masks.{any_kind, spare_words, Asked, Compares, Pictured, Pictures};
@@ -146,6 +146,17 @@ fn dense_picture(domain: usize, mut memory: Vec<Word>) -> Answer
     if memory[taken..] != SPARE[..] {
         return Answer::Spoilt;
     }
-    memory.truncate(taken);
-    Answer::Picture(domain, memory)
+    Answer::Picture(words_after_domain(domain, taken, memory))
+}
+
+// The domain and then a row's first words, as one list, which is what is printed. The domain takes the place of a word
+// behind them, so that no memory is asked for.
+fn words_after_domain(domain: usize, taken: usize, mut memory: Vec<Word>) -> Vec<Word>
+    requires { taken < vec_len memory }
+    ensures { vec_items result ≡ domain ∷ take taken memory.items }
+{
+    memory.truncate(taken + 1);
+    memory[taken] = domain as Word;
+    memory.rotate_right(1);
+    memory
 }
