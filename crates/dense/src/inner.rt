@@ -30,6 +30,10 @@ impl DenseBitSet {
         }
         let mut words = memory;
         clear_words(&mut words, n);
+        // Cleared words are those of an empty set: to fill it with nothing would write them once more.
+        if !full {
+            return Ok(DenseBitSet { domain_size, words });
+        }
         fill_row(&mut words, domain_size, full);
         Ok(DenseBitSet { domain_size, words })
     }

@@ -1,12 +1,35 @@
--- The words are cleared, and then filled as asked.
-use Rattle.std.proofs.Common.{◌≡◌, ◌++◌, drop, replicate, vec_items, vec_len, refl, ap, ◌∙◌, arith}
+-- The words are cleared, which makes an empty set of them, and then filled where that is asked.
+use Rattle.std.proofs.Common.{◌≡◌, ◌++◌, drop, replicate, vec_items, vec_len, refl, sym, ap, ◌∙◌, rules, arith}
 use Rattle.std.proofs.lemmas.Bool.{le-leb}
 use Rattle.words.specs.Bits.{words_for}
 use Rattle.rows.proofs.Lent.{lent_becomes, becomes_behind, blank_behind}
 use Rattle.rows.proofs.Loops.{becomes_members}
-use Rattle.rows.proofs.RowWords.{blank_clean}
+use Rattle.rows.proofs.RowWords.{blank_fit, blank_clean, blank_members}
 use Rattle.rows.proofs.Tabs.{tab_const}
 use Rattle.dense.proofs.bit_set.DenseBitSet.uniform.Goals as goal
+
+pub invariant_of-result : goal.invariant_of-result
+invariant_of-result c =
+    let n = c.args.domain_size in
+    let cleared = c.clear_words.ensures.items ∙ ap (λ w. replicate w 0 ++ drop w (vec_items c.args.memory)) c.num_words-n.ensures in
+    record {
+      small = search rules;
+      enough = omega (arith, c.clear_words.ensures.len, c.len.ensures, c.if-len-n.false, c.num_words-n.ensures);
+      fit = blank_fit n _ _ cleared;
+      clean = blank_clean n _ _ cleared;
+    }
+
+pub returns-then-not-full : goal.returns-then-not-full
+returns-then-not-full c =
+    let n = c.args.domain_size in
+    let cleared = c.clear_words.ensures.items ∙ ap (λ w. replicate w 0 ++ drop w (vec_items c.args.memory)) c.num_words-n.ensures in
+    record {
+      enough = le-leb (words_for n) (vec_len c.args.memory) (omega (arith, c.len.ensures, c.if-len-n.false, c.num_words-n.ensures));
+      domain = refl;
+      members = blank_members n _ _ cleared ∙ ap (λ b. replicate n b) (sym c.if-not-full.true);
+      rule = refl;
+      spare = blank_behind (words_for n) (vec_items c.clear_words.new.words) (vec_items c.args.memory) cleared;
+    }
 
 pub fill_row-requires : goal.fill_row-requires
 fill_row-requires c =
