@@ -35,6 +35,11 @@ module _ {A B : Type 0} (f : A → Option B) where
   none_at (x ∷ xs) h zero d l = (none_here x xs h).0
   none_at (x ∷ xs) h (suc k) d l = none_at xs (none_here x xs h).1 k d (le_of_suc-le-suc l)
 
+-- `or_else`, which goes on where there is nothing
+pub gone_on : {B : Type 0} (first second r : Option B) (E : Type 0) → MatchOption first E (λ x. r ≡ Some x) → (E → r ≡ second) → r ≡ option_or first second
+gone_on None second r E m k = k m
+gone_on (Some x) second r E m k = m
+
 -- `find_map` over a chain that gives a list, with a closure that asks the question of each item
 module _ {S A B C F : Type 0} (steps : S → Option A → S → Type 0) (v : A → B) (g : Mut F (A × Unit {0}) (Option C)) (f : F) (h : B → Option C)
     (k : (x : A) (r : Option C) (q : F) → Called g f (x, tt) r q → (q ≡ f) × (r ≡ h (v x))) where

@@ -43,13 +43,20 @@ fn untried_call<T: Idx, O: Operator>(call: Call<T, O>) -> Option<NotTried>
     }
 }
 
-// Why two lists cannot be tried: what the first call says that cannot, the first list's calls before the second's.
-// An Option, as the first answer that a search finds; it becomes the error of `trials_agree` alone.
+// What the first call of a list that cannot be tried says, if there is one: an Option, as the first answer that a search finds.
+fn first_untried<T: Idx, O: Operator>(calls: &[Call<T, O>]) -> Option<NotTried>
+    ensures { result ≡ untried calls.now }
+{
+    calls.iter().find_map(|c| untried_call(*c))
+}
+
+// Why two lists cannot be tried: what the first list's calls say before the second's. It becomes the error of `trials_agree`
+// alone. Each list is gone over by itself, since over a chain of both it took four times as long.
 // Two lists side by side, here and below: a pair of them would be made and taken apart at once.
 fn untried<T: Idx, O: Operator>(xs: &[Call<T, O>], ys: &[Call<T, O>]) -> Option<NotTried>
     ensures { result ≡ untried (xs.now ++ ys.now) }
 {
-    xs.iter().chain(ys).find_map(|c| untried_call(*c))
+    first_untried(xs).or_else(|| first_untried(ys))
 }
 
 // Bit b of the sixty-four patterns of a round, as a word.

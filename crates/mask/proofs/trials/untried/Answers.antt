@@ -1,12 +1,11 @@
-use Rattle.std.proofs.Common.{rules, tests}
-use Rattle.std.proofs.lemmas.Iterator.{YieldsList-from_slice}
-use Rattle.std.proofs.lemmas.Iterator.Consumers.{YieldsList-from_chain}
-use Rattle.mask.specs.Trials.{untried_call}
-use Rattle.mask.proofs.Firsts.{first_answer-from_find_map}
+use Rattle.std.proofs.Common.{sym, ap, ◌∙◌, rules}
+use Rattle.std.specs.Option.{option_or}
+use Rattle.mask.specs.Trials.{untried_call, untried}
+use Rattle.mask.proofs.Firsts.{first_answer-append, gone_on}
 use Rattle.mask.proofs.trials.untried.Goals as goal
 
 pub returns : goal.returns
 returns g c =
-    first_answer-from_find_map untried_call c.find_map.result c.find_map.ensures.runs
-    (YieldsList-from_chain (YieldsList-from_slice c.args.xs.now cc) (YieldsList-from_slice c.args.ys.now cc) (cc) (cc))
-    (λ x r q k. search (rules, tests))
+    let second = untried c.args.ys.now in
+    gone_on c.first_untried.result second c.or_else.result _ c.or_else.ensures (λ e. search rules) ∙ ap (λ o. option_or o second) c.first_untried.ensures
+    ∙ sym (first_answer-append untried_call c.args.xs.now c.args.ys.now)
