@@ -131,7 +131,7 @@ impl fmt::Display for Mark {
 impl fmt::Display for Strip {
     fn fmt<W: fmt::Write>(&self, f: &mut fmt::Formatter<W>) -> fmt::Result {
         f.write_str("|")?;
-        for mark in self.marks.iter().flatten() {
+        for mark in self.marks.iter().map_while(|mark| *mark) {
             write!(f, "{mark}")?;
         }
         f.write_str("|")
